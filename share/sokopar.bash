@@ -8,8 +8,8 @@ _sokopar() {
         dead) options="--help" ;;
         replay) options="--help" ;;
         solve) options="--workers --locks --limit --max-pushes --help" ;;
-        best) options="--from --to --workers --limit --max-pushes --help" ;;
-        prove) options="--workers --limit --help" ;;
+        best) options="--from --to --workers --limit --max-pushes --moves --help" ;;
+        prove) options="--workers --limit --moves --help" ;;
         *) options= ;;
     esac
     if [ "$COMP_CWORD" = 1 ]; then

@@ -28,9 +28,11 @@ complete -c sokopar -n '__fish_seen_subcommand_from best' -l to -x -d 'Without N
 complete -c sokopar -n '__fish_seen_subcommand_from best' -l workers -x -d 'Number of threads [default: 1]'
 complete -c sokopar -n '__fish_seen_subcommand_from best' -l limit -x -d 'Stops beyond L positions [default: 1000000]'
 complete -c sokopar -n '__fish_seen_subcommand_from best' -l max-pushes -x -d 'Looks only for solutions with at most M pushes'
+complete -c sokopar -n '__fish_seen_subcommand_from best' -l moves -d 'Also decides which moves are the fewest'
 complete -c sokopar -n '__fish_seen_subcommand_from best' -s h -l help -d 'Print help'
 complete -c sokopar -n __fish_use_subcommand -a prove -d 'Proves that a solution has the fewest pushes'
 complete -c sokopar -n '__fish_seen_subcommand_from prove' -F
 complete -c sokopar -n '__fish_seen_subcommand_from prove' -l workers -x -d 'Number of threads [default: 1]'
 complete -c sokopar -n '__fish_seen_subcommand_from prove' -l limit -x -d 'Stops beyond L positions [default: 1000000]'
+complete -c sokopar -n '__fish_seen_subcommand_from prove' -l moves -d 'Also decides which moves are the fewest'
 complete -c sokopar -n '__fish_seen_subcommand_from prove' -s h -l help -d 'Print help'
