@@ -4,7 +4,7 @@
 //!
 //! - [`flood`] finds the squares that the player reaches without a push.
 //! - [`normal`] makes two positions equal that differ only by such a walk. [`normalise_after`] does the same after
-//!   a push, for less.
+//!   a push, in less time.
 //! - [`possible_pushes`] lists the pushes that a position allows.
 //! - [`walk`] gives the moves between two pushes.
 //!

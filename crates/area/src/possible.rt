@@ -18,8 +18,8 @@ pub const MAX_PUSHES: usize = 4 * MAX_BOXES;
 /// and for each box down, left, right, up.
 ///
 /// Overwrites the caller's list, so that a search makes no large value for each position, and takes no memory.
-/// Leaves the flood of the position in the scratch. The position fits the level, and the scratch is made for the level's
-/// size.
+/// Leaves the flood of the position in the scratch. The position fits the level, and the scratch is made for the
+/// level's size.
 pub fn possible_pushes(
     level: &Level,
     position: &Position,

@@ -41,7 +41,8 @@ fn look(
     tail: usize,
 ) -> usize
     requires room { length marks.old ≡ length level.now.cells }
-    requires space { is_wall level.now square ≡ false → slice_index marks.old square < BOX_MARK → tail < length queue.old }
+    requires space { is_wall level.now square ≡ false → slice_index marks.old square < BOX_MARK →
+        tail < length queue.old }
     ensures { IsLook level.now BOX_MARK square mark tail marks.old queue.old result marks.new queue.new }
 {
     if level.is_wall(square) {

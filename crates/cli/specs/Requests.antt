@@ -26,8 +26,8 @@ pub record AsksToSolve (matches : ArgMatches) (search : SolveRequest) : Type 0 w
   pub limit : HasNumber matches (codes "limit") MOST search.config.limit
   pub cap : MayHaveNumber matches (codes "max-pushes") MOST search.config.cap
 
--- the settings of a search of `best` are the numbers of the arguments; it looks for the fewest moves exactly if the flag
--- is given
+-- the settings of a search of `best` are the numbers of the arguments; it looks for the fewest moves exactly if the
+-- flag is given
 pub record HasSettings (matches : ArgMatches) (config : SearchConfig) : Type 0 where
   pub workers : HasNumber matches (codes "workers") MOST_WORKERS config.workers
   pub limit : HasNumber matches (codes "limit") MOST config.limit

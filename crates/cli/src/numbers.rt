@@ -126,7 +126,7 @@ pub(crate) fn lacks<'a>(
     }
 }
 
-/// The cap of pushes, if one is given.
+/// The cap on pushes, if `--max-pushes` is given.
 pub(crate) fn cap_of<'a>(matches: &ArgMatches<'a>) -> Result<Option<u32>, BadArgument<'a>>
     ensures ok { IfOk result (λ cap. MayHaveNumber matches.now (codes "max-pushes") MOST cap) }
     ensures err { OnErr result ((cap : Option ℕ) → ¬ (MayHaveNumber matches.now (codes "max-pushes") MOST cap)) }

@@ -11,8 +11,8 @@ use std::{fs, io};
 /// 235 KB (measured).
 const STACK: usize = 288 * 1024;
 
-/// The least limit on the stack. It leaves 160 KB above [`STACK`], of which the arguments and the environment take up to
-/// 128 KB. They may take a quarter of a limit above 512 KB.
+/// The least limit on the stack. It leaves 160 KB above [`STACK`], of which the arguments and the environment take up
+/// to 128 KB. They may take a quarter of a limit above 512 KB.
 const LEAST_LIMIT: u64 = 448 * 1024;
 
 /// Where Linux lists the limits of the process that reads it.

@@ -46,7 +46,7 @@ abbrev pub IsReady : Board → ℕ → (ℕ → Bool) → (ℕ → Bool) → Sce
 IsReady board m held room s b d =
     IsBarred board held room b d ⊎ (NeverHelps board m s b d ⊎ (FreezesHeld board held b d ⊎ LeadsIn board room s b d))
 
--- held boxes and room are a corral in which something has to change, where all pushes that could be first are ready
+-- held boxes and a room form a corral that has to change, and all pushes that can change it first are ready
 pub record IsClosure (board : Board) (m : ℕ) (held room : ℕ → Bool) (s : Scene) : Type 0 where
   pub corral : IsCorral board held room s
   pub change : HasToChange board held room

@@ -4,8 +4,8 @@ ghost use Rattle.corrals.specs.Corrals.{CorralsSuffice};
 
 use grid::Level;
 
-/// If something in a corral has to change, and all pushes of its boxes that could be the first are ready, the pushes of
-/// these boxes suffice.
+/// If a corral has to change before the level is solved, and each push that could be the first of its boxes, and could
+/// help, can be made at once, then the pushes of its boxes suffice.
 pub fn corrals_suffice(level: &Level)
     ensures { CorralsSuffice level.now }
 {}

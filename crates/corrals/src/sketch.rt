@@ -38,9 +38,9 @@ pub(crate) enum Beside {
 }
 
 /// The boxes and the rooms of a position. `codes` says what is on each square. `squares` lists the rooms one after the
-/// other; a room has those from `starts` to `ends`. `around` has the boxes around each room, `goals` the rooms with goals
-/// and `off_goal` the boxes off goal, all as bits. `beside` has the codes of the four squares beside each box. A bit of
-/// `asked` says that it is known whether a push of a box never helps, the bit of `useless` that it never does.
+/// other; a room has those from `starts` to `ends`. `around` has the boxes around each room, `goals` the rooms with
+/// goals and `off_goal` the boxes off goal, all as bits. `beside` has the codes of the four squares beside each box. A
+/// bit of `asked` says that it is known whether a push of a box never helps, the bit of `useless` that it never does.
 #[derive(Debug, Drop)]
 pub(crate) struct Sketch {
     codes: Vec<u8>,
@@ -311,7 +311,7 @@ impl Sketch {
         }
     }
 
-    // Enters what is beside a box.
+    // Enters, for each direction, what is on the square beside a box.
     fn look_beside(&mut self, ground: &Ground<'_>, place: usize) {
         let square = self.square(place);
         for dir in Dir::ALL {

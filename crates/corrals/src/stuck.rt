@@ -14,7 +14,7 @@ struct Holders {
 }
 
 impl Holders {
-    // Whether it is held on both axes if there are only these boxes.
+    // Whether the box is held on both axes where these boxes are the only others.
     fn hold(&self, members: u64) -> bool {
         (self.is_fast_across || self.across & members != 0)
             && (self.is_fast_along || self.along & members != 0)

@@ -1,38 +1,19 @@
 -- Desks, one place after the other.
-use Rattle.std.proofs.Common.{◌≡◌, ◌≢◌, ◌⊎◌, ℕ, zero, suc, ◌+◌, ◌<◌, List, [], ◌∷◌, ◌++◌, length, get_or, set, Some, inl, inr, refl, sym, ap, ◌∙◌, arith}
+use Rattle.std.proofs.Common.{◌≡◌, ◌⊎◌, ℕ, zero, suc, ◌+◌, ◌<◌, List, [], ◌∷◌, ◌++◌, length, get_or, set, Some, inl, inr, sym, ap, ◌∙◌, arith}
 use Rattle.std.specs.Prelude.{slice_get}
 use Rattle.std.proofs.lemmas.Bool.{cases_lt}
-use Rattle.std.proofs.lemmas.Option.{same_Some, get_or_from_slice_get, slice_get-get_or, slice_get_within}
+use Rattle.std.proofs.lemmas.Option.{get_or_from_slice_get, slice_get-get_or, slice_get_within}
+use Rattle.successors.proofs.lemmas.Lists.{at_before, each_push, each_set, set_at}
 use Rattle.area.specs.Reach.{Reach}
 use Rattle.claims.specs.Hands.{LedgerView, newcomer}
 use Rattle.crew.specs.inside.Desks.{AreRoomy, HaveDrawers}
 use Rattle.crew.specs.declared.desks.Desk.{Desk}
 
--- what stands in a list with one element changed
-pub set_at : {A : Type 0} (xs : List A) (p i : ℕ) (y x : A) → slice_get (set xs p y) i ≡ Some x → ((i ≡ p) × (x ≡ y)) ⊎ ((i ≢ p) × (slice_get xs i ≡ Some x))
-set_at [] p i y x e = cc
-set_at (z ∷ xs) zero zero y x e = inl (refl, same_Some x y (sym e))
-set_at (z ∷ xs) zero (suc i) y x e = inr ((λ same. omega (arith, same)), e)
-set_at (z ∷ xs) (suc p) zero y x e = inr ((λ same. omega (arith, same)), e)
-set_at (z ∷ xs) (suc p) (suc i) y x e = elim (set_at xs p i y x e) [
-  | inl h ↦ inl (ap suc h.0, h.1)
-  | inr h ↦ inr ((λ same. h.0 (omega (arith, same))), h.1)
-]
-
--- what stands in a list with one more element
-push_at : {A : Type 0} (xs : List A) (y : A) (i : ℕ) (x : A) → slice_get (xs ++ y ∷ []) i ≡ Some x → (x ≡ y) ⊎ (slice_get xs i ≡ Some x)
-push_at [] y zero x e = inl (same_Some x y (sym e))
-push_at [] y (suc i) x e = cc
-push_at (z ∷ xs) y zero x e = inr e
-push_at (z ∷ xs) y (suc i) x e = push_at xs y i x e
-
 -- a desk whose scratch stays leaves them roomy
 pub roomy_set : (size : ℕ) (desks : List Desk) (place : ℕ) (before after : Desk) → slice_get desks place ≡ Some before → after.scratch ≡ before.scratch →
     AreRoomy size desks → AreRoomy size (set desks place after)
-roomy_set size desks place before after here kept roomy i desk at = elim (set_at desks place i after desk at) [
-  | inl h ↦ ap (λ (d : Desk). d.scratch.size) h.1 ∙ ap (λ (s : Reach). s.size) kept ∙ roomy place before here
-  | inr h ↦ roomy i desk h.1
-]
+roomy_set size desks place before after here kept roomy =
+    each_set (λ (d : Desk). d.scratch.size ≡ size) desks place after (ap (λ (s : Reach). s.size) kept ∙ roomy place before here) roomy
 
 -- one more desk has a drawer
 pub drawers_set : (ledger : LedgerView) (place : ℕ) (desks : List Desk) (after : Desk) → after.drawer ≡ Some (newcomer ledger) →
@@ -44,10 +25,7 @@ drawers_set ledger place desks after given drawers i desk lt at = elim (set_at d
 
 -- one more desk is as roomy
 pub roomy_push : (size : ℕ) (desks : List Desk) (new : Desk) → new.scratch.size ≡ size → AreRoomy size desks → AreRoomy size (desks ++ new ∷ [])
-roomy_push size desks new room roomy i desk at = elim (push_at desks new i desk at) [
-  | inl same ↦ ap (λ (d : Desk). d.scratch.size) same ∙ room
-  | inr h ↦ roomy i desk h
-]
+roomy_push size desks new room roomy = each_push (λ (d : Desk). d.scratch.size ≡ size) desks new room roomy
 
 pub roomy_none : (size : ℕ) → AreRoomy size []
 roomy_none size i desk at = cc
@@ -60,13 +38,7 @@ roomy_each size before after same kept roomy i desk at =
     let was : (get_or before i desk).scratch.size ≡ size = roomy i (get_or before i desk) (slice_get-get_or before i desk lt) in
     ap (λ (d : Desk). d.scratch.size) (sym (get_or_from_slice_get after i desk desk at)) ∙ kept i desk lt ∙ was
 
--- what stands in the first of two lists stands in both
-pub in_front : {A : Type 0} (xs ys : List A) (i : ℕ) (x : A) → slice_get xs i ≡ Some x → slice_get (xs ++ ys) i ≡ Some x
-in_front [] ys i x e = cc
-in_front (z ∷ xs) ys zero x e = e
-in_front (z ∷ xs) ys (suc i) x e = in_front xs ys i x e
-
--- and so does what stands in the second
+-- what stands in the second of two lists stands in both
 pub in_back : {A : Type 0} (xs ys : List A) (i : ℕ) (x : A) → slice_get ys i ≡ Some x → (j : ℕ) × (slice_get (xs ++ ys) j ≡ Some x)
 in_back [] ys i x e = (i, e)
 in_back (z ∷ xs) ys i x e = (suc (in_back xs ys i x e).0, (in_back xs ys i x e).1)
@@ -80,7 +52,7 @@ in_either (z ∷ xs) ys (suc i) x e = in_either xs ys i x e
 -- of roomy desks the first ones and the others are roomy
 pub roomy_cut : (size : ℕ) (all front back : List Desk) → all ≡ front ++ back → AreRoomy size all → AreRoomy size front × AreRoomy size back
 roomy_cut size all front back is roomy = (
-  (λ i desk at. roomy i desk (ap (λ l. slice_get l i) is ∙ in_front front back i desk at)),
+  (λ i desk at. roomy i desk (ap (λ l. slice_get l i) is ∙ at_before front back i desk at)),
   (λ i desk at. let h = in_back front back i desk at in roomy h.0 desk (ap (λ l. slice_get l h.0) is ∙ h.1)),
 )
 

@@ -76,8 +76,8 @@ EndsWith worker hand (Refused refusal) = Unit {0}
 EndsWith worker hand Stopped = Unit {0}
 EndsWith worker hand Foreign = Unit {0}
 
--- a worker ends as refused only if a lawful book of its own did not accept a parcel of the layer, and as foreign only if
--- a lawful book was not its own
+-- a worker ends as refused only if a lawful book of its own did not accept a parcel of the layer, and as foreign only
+-- if a lawful book was not its own
 abbrev pub WasAnswered : LayerView → ℕ → ℕ → End → Type 0
 WasAnswered layer workers worker (Refused refusal) =
     (book : BookView) × (parcel : ParcelView) × IsLawfulBook book × IsOfLayer layer parcel

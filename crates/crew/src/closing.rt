@@ -3,12 +3,12 @@ ghost use Rattle.std.specs.Prelude.{◌≡◌, ◌<◌, ◌≤◌, ℕ, IfOk, So
 ghost use Rattle.layers.specs.BookView.{BookView};
 ghost use Rattle.solo.specs.inside.Rests.{MayBeClosed, MayBeClosedEach};
 ghost use Rattle.successors.specs.declared.limits.TheConstants.{MAX_SHARES};
-ghost use Rattle.solo.specs.inside.Together.{AreFinished};
 ghost use Rattle.solo.specs.inside.Iterations.{AreWorkingOn};
+ghost use Rattle.crew.specs.inside.Iterations.{AreFinished};
 
 use crate::config::Config;
 use layers::{Book, Layer};
-use solo::{Search, Worked, close_ahead};
+use solo::{Search, close_ahead, close_rest};
 use spreading::for_each_spread;
 use std::alloc::AllocError;
 use std::thread::Threads;
@@ -21,30 +21,30 @@ const SIDE_BY_SIDE: u64 = 4096;
 const MOST: u8 = 4;
 
 // Does what is left of the layer in each of the books, under the caller's own number, and then closes the next layer in
-// each. If one book is over, or if all books hold more positions together than the limit, it closes none. Books may
-// close side by side.
+// each. If one book is over, or if all books hold more positions together than the limit, it closes none and returns
+// `false`. Books may close side by side.
 pub(crate) fn finish_all<R: Threads + Sync>(
     rt: &R,
     config: Config,
     books: &mut [Book],
     layer: &Layer,
     search: &mut Search<'_>,
-) -> Result<Worked, AllocError>
+) -> Result<bool, AllocError>
     requires level { layer.now.level ≡ search.old.task }
     requires few { length books.old ≤ MAX_SHARES }
     requires working { AreWorkingOn layer.now books.old }
     requires worker { (i : ℕ) (v : BookView) → slice_get books.old i ≡ Some v → config.workers < v.workers }
-    ensures worked { IfOk result (λ worked. AreFinished search.old.limit books.old layer.now worked books.new) }
+    ensures finished { IfOk result (λ within. AreFinished search.old.limit books.old layer.now within books.new) }
     ensures same { search.new ≡ search.old }
 {
     // the caller's own number is the last one
     let own = config.workers;
-    if search.do_rest(books, layer, own)?.is_none() {
-        return Ok(Worked::Over);
-    }
+    let Some(_) = search.do_rest(books, layer, own)? else {
+        return Ok(false);
+    };
     close_side_by_side(rt, books, layer, own);
-    let worked = search.finish_rest(books, layer, own)?;
-    Ok(worked)
+    close_rest(books)?;
+    Ok(true)
 }
 
 // If the layer is large, closes the next one in each of the books whose ranks are all done, up to `workers` of them

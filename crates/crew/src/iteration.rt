@@ -15,7 +15,7 @@ use crate::joining::join_layer;
 use crate::lent::{come_back, lend};
 use crate::settings::{SearchState, Settings};
 use layers::{Book, Layer};
-use solo::{Answer, Search, Worked, begin_each};
+use solo::{Answer, Search, begin_each};
 use std::alloc::AllocError;
 use std::mem::replace;
 use std::sync::Wait;
@@ -53,25 +53,25 @@ pub(crate) fn iterate<R: Threads + Wait + Sync, G: Gate + Sync>(
     if let Some(answer) = state.search.look(&layer)? {
         return Ok(IterationEnd::Found(answer));
     }
-    let Some((worked, after)) = work_through(rt, settings, books, &layer, state)? else {
+    let Some((within, after)) = work_through(rt, settings, books, &layer, state)? else {
         return Ok(IterationEnd::Foreign);
     };
-    state.memory = state.search.push(layer)?;
-    match worked {
-        Worked::Over => Ok(IterationEnd::Found(Answer::Limit)),
-        Worked::Through => Ok(IterationEnd::Onward(after)),
+    if !within {
+        return Ok(IterationEnd::Found(Answer::Limit));
     }
+    state.memory = state.search.push(layer)?;
+    Ok(IterationEnd::Onward(after))
 }
 
-// Lends the books to the workers, and then does what they left of the layer, book by book. `None` if other books came
-// back. Fails only if out of memory.
+// Lends the books to the workers, and then does what they left of the layer, book by book. The `bool` is `false` if the
+// limit is passed. `None` if other books came back. Fails only if out of memory.
 fn work_through<R: Threads + Wait + Sync, G: Gate + Sync>(
     rt: &R,
     settings: &Settings<'_, G>,
     mut books: Vec<Book>,
     layer: &Layer,
     state: &mut SearchState<'_>,
-) -> Result<Option<(Worked, Vec<Book>)>, AllocError>
+) -> Result<Option<(bool, Vec<Book>)>, AllocError>
     requires limits { IsWithinLimits settings.now.config }
     requires state { IsStateOf settings.now.config state.old }
     requires level { layer.now.level ≡ state.old.search.task }
@@ -87,15 +87,15 @@ fn work_through<R: Threads + Wait + Sync, G: Gate + Sync>(
     finish_lent(rt, settings.config, back, layer, &mut state.search)
 }
 
-// Does what is left of a layer in the books that came back, book by book. `None` exactly if they are other books than
-// those lent. Fails only if out of memory, and never with other books.
+// Does what is left of a layer in the books that came back, book by book. The `bool` is `false` if the limit is passed.
+// `None` exactly if they are other books than those lent. Fails only if out of memory, and never with other books.
 fn finish_lent<R: Threads + Sync>(
     rt: &R,
     config: Config,
     mut back: Vec<Book>,
     layer: &Layer,
     search: &mut Search<'_>,
-) -> Result<Option<(Worked, Vec<Book>)>, AllocError>
+) -> Result<Option<(bool, Vec<Book>)>, AllocError>
     requires limits { IsWithinLimits config }
     requires level { layer.now.level ≡ search.old.task }
     requires limit { search.old.limit ≡ config.limit }
@@ -108,6 +108,6 @@ fn finish_lent<R: Threads + Sync>(
     if !come_back(back.as_slice(), config, layer) {
         return Ok(None);
     }
-    let worked = finish_all(rt, config, back.as_mut_slice(), layer, search)?;
-    Ok(Some((worked, back)))
+    let within = finish_all(rt, config, back.as_mut_slice(), layer, search)?;
+    Ok(Some((within, back)))
 }

@@ -19,7 +19,7 @@ NeedAtLeast board boxes n = (s t : Scene) (ds : List Dir) (ps : List Push) → I
     Play board Any s ds ps t → IsSolved board t →
     n ≤ length ps
 
--- a push from a state with just these boxes leads to boxes whose sum, if they have one, is n less one or more
+-- a push from a state with just these boxes leads to boxes whose sum, if they have one, is at least n - 1
 abbrev pub LessenByOne : Board → Squares → ℕ → Type 0
 LessenByOne board boxes n = (s t : Scene) (d : Dir) (m : ℕ) → IsScene board s → s.boxes ≡ boxes → Pushes board s d t →
     IsLower board t.boxes m → n ≤ suc m

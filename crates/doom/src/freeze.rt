@@ -11,9 +11,9 @@ use grid::{Level, Position, Square};
 
 /// Whether the boxes of the position are doomed: a box is on a dead square, or some boxes, at least one of them off
 /// goal, are frozen, each blocked on both axes by a wall, another of them or two dead squares. No play from a state
-/// with doomed boxes ends solved. Makes at most one pass more than there are boxes; a pass visits the words of the grid,
-/// or the boxes if these are far fewer. `dead` is that of the level, and the scratch is made for its size. It allocates
-/// no memory.
+/// with doomed boxes ends solved. Makes at most one pass more than there are boxes; a pass visits the words of the
+/// grid, or the boxes if these are far fewer. `dead` is that of the level, and the scratch is made for its size. It
+/// allocates no memory.
 pub fn doomed(level: &Level, dead: &Dead, position: &Position, scratch: &mut Scratch) -> bool
     requires fits { FitsLevel level.now position.now }
     requires dead_of_level { dead.now ≡ level.now }

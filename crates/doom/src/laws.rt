@@ -17,8 +17,8 @@ pub fn solution_is_safe(level: &Level)
     ensures { SolvesSafely level.now }
 {}
 
-/// A push lessens the sum of the fewest pushes that lone boxes need by one at most; solved boxes need none; and boxes
-/// have one sum only.
+/// A push lessens the lower bound of the boxes by at most one; solved boxes have the bound 0; and each set of boxes has
+/// only one bound.
 pub fn a_push_lessens_the_bound_by_one(level: &Level)
     ensures push { PushLessensByOne level.now }
     ensures solved { SolvedNeedNone level.now }

@@ -40,8 +40,8 @@ impl Model for Level {
 }
 
 impl Level {
-    /// The level of these cells, row by row in rows of `cols`, at least 1; the number of cells is a multiple of it. Fails
-    /// with the first [`LevelFault`] that applies, or if out of memory.
+    /// The level of these cells, row by row in rows of `cols`, at least 1; the number of cells is a multiple of it.
+    /// Fails with the first [`LevelFault`] that applies, or if out of memory.
     pub fn from_cells(alloc: Global, cols: usize, cells: Vec<Cell>) -> Result<Level, LevelFault>
         requires columns { 1 ≤ cols }
         requires whole { length cells.items % cols ≡ 0 }
@@ -153,8 +153,8 @@ impl Level {
         self.board.player()
     }
 
-    /// The square next to a square of the grid in a direction. Where the grid ends it is the number of squares, which is
-    /// no square.
+    /// The square next to a square of the grid in a direction. Where the grid ends it is the number of squares, which
+    /// is no square.
     pub fn next(&self, square: Square, dir: Dir) -> Square
         requires { square < length self.now.cells }
         ensures { result ≡ next self.now square dir }

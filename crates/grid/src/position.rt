@@ -142,8 +142,8 @@ impl Position {
         self.player = player;
     }
 
-    /// Moves the box on `from` to `to`, which has no box, and the player to `from`. `place` is a guess at the index of the box, which a
-    /// caller that goes through the boxes in order knows; a wrong guess only costs time.
+    /// Moves the box on `from` to `to`, which has no box, and the player to `from`. `place` is a guess at the index of
+    /// the box, which a caller that goes through the boxes in order knows; a wrong guess only costs time.
     pub fn push_at(&mut self, place: usize, from: Square, to: Square)
         requires box_there { contains self.old.boxes from ≡ true }
         requires free { contains self.old.boxes to ≡ false }

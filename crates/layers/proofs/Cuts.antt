@@ -1,6 +1,7 @@
 -- A list that is cut into pieces.
 use Rattle.std.proofs.Common.{◌≡◌, ℕ, zero, suc, ◌+◌, ◌<◌, ◌≤◌, Bool, true, false, cond, ◌||◌, List, [], ◌∷◌, ◌++◌, length, map, take, drop, get_or, Some, None}
 use Rattle.std.proofs.Common.{is_some, inl, inr, refl, sym, ap, ◌∙◌, arith}
+use Rattle.std.proofs.Math.Seq.{take-length}
 use Rattle.std.proofs.lemmas.List.{length-drop, length-take}
 use Rattle.std.proofs.lemmas.Option.{same_Some, none-some, slice_get_within, slice_get_past, slice_get-map}
 use Rattle.std.specs.Prelude.{slice_get}
@@ -21,11 +22,7 @@ pub cut_piece : {A : Type 0} (starts : List ℕ) (xs : List A) (k p q : ℕ) →
     get_or (cut_at starts xs) k [] ≡ drop p (take q xs)
 cut_piece [] xs k p q (at, next) = absurd (none-some p at)
 cut_piece (i ∷ []) xs zero p q (at, inl next) = absurd (none-some q next)
-cut_piece (i ∷ []) xs zero p q (at, inr (none, e)) = (λ n. drop (same_Some i p at n) xs) ∙ ap (drop p) (sym (take_all xs) ∙ ap (λ n. take n xs) (sym e))
-  where
-    take_all : {A : Type 0} (ys : List A) → take (length ys) ys ≡ ys
-    take_all [] = refl
-    take_all (y ∷ ys) = ap (λ zs. y ∷ zs) (take_all ys)
+cut_piece (i ∷ []) xs zero p q (at, inr (none, e)) = (λ n. drop (same_Some i p at n) xs) ∙ ap (drop p) (sym (take-length xs) ∙ ap (λ n. take n xs) (sym e))
 cut_piece (i ∷ []) xs (suc k) p q (at, next) = absurd (none-some p at)
 cut_piece (i ∷ j ∷ js) xs zero p q (at, inl next) = λ n. drop (same_Some i p at n) (take (same_Some j q next n) xs)
 cut_piece (i ∷ j ∷ js) xs zero p q (at, inr (none, e)) = absurd (none-some j (sym none))

@@ -14,22 +14,10 @@ use Rattle.successors.specs.Reaching.{total}
 use Rattle.store.specs.FoundView.{origin_in}
 use Rattle.layers.specs.inside.Merging.{IsLeastFirst, Takes, IsMerged}
 use Rattle.layers.specs.inside.Merging.Takes.{nothing, one}
-use Rattle.successors.proofs.lemmas.Lists.{Rises, at-push, at_before, at_seam, sum_by_first, set-at, set_elsewhere}
+use Rattle.successors.proofs.lemmas.Lists.{Rises, at-push, at_before, at_seam, set_at, set_here, set_there, sum_by_first}
 use Rattle.store.proofs.lemmas.Origins.{origin_total}
 
 -- ---- lists
-
--- what stands in a list of lists after one of them was changed
-at-set : {A : Type 0} (xs : List A) (s t : ℕ) (x y z : A) → slice_get xs s ≡ Some x → slice_get (set xs s y) t ≡ Some z →
-    ((t ≡ s) × (z ≡ y)) ⊎ ((t ≢ s) × (slice_get xs t ≡ Some z))
-at-set [] s t x y z here at = absurd (none-some x here)
-at-set (w ∷ xs) zero zero x y z here at = inl (refl, sym (same_Some y z at))
-at-set (w ∷ xs) zero (suc t) x y z here at = inr ((λ e. omega (arith, e)), at)
-at-set (w ∷ xs) (suc s) zero x y z here at = inr ((λ e. omega (arith, e)), at)
-at-set (w ∷ xs) (suc s) (suc t) x y z here at = elim (at-set xs s t x y z here at) [
-  | inl same ↦ inl (ap suc same.0, same.1)
-  | inr other ↦ inr ((λ e. other.0 (omega (arith, e))), other.1)
-]
 
 -- a list ends with another
 abbrev EndsWith : {A : Type 0} → List A → List A → Type 0
@@ -90,7 +78,7 @@ module _ {lists : List (List Closed)} where
   left_ends : {taken : List Closed} {rests : List (List Closed)} → Takes lists taken rests → (t : ℕ) (rest : List Closed) → slice_get rests t ≡ Some rest →
       (es : List Closed) × (slice_get lists t ≡ Some es) × EndsWith es rest
   left_ends nothing t rest at = (rest, at, ends_itself rest)
-  left_ends (one {taken} {rests} {s} {e} {rest = more} takes least) t rest at = elim (at-set rests s t (e ∷ more) more rest least.here at) [
+  left_ends (one {taken} {rests} {s} {e} {rest = more} takes least) t rest at = elim (set_at rests s t more rest at) [
     | inl same ↦ (let w = left_ends takes s (e ∷ more) least.here in
         (w.0, ap (slice_get lists) same.0 ∙ w.1, subst (EndsWith w.0) (sym same.1) (ends_rest w.0 e more w.2)))
     | inr other ↦ left_ends takes t rest other.1
@@ -113,7 +101,7 @@ module _ {lists : List (List Closed)} where
   taken_or_left (one {taken} {rests} {s} {e} {rest = more} takes least) t es a at i = elim (taken_or_left takes t es a at i) [
     | inl old ↦ inl (old.0, at_before taken (e ∷ []) old.0 a old.1)
     | inr (rest, there, left) ↦ elim (cases_eq t s) [
-      | inr other ↦ inr (rest, set_elsewhere rests s t more rest other there, left)
+      | inr other ↦ inr (rest, set_there rests s t more other ∙ there, left)
       | inl same ↦ go rest (same_Some rest (e ∷ more) (sym there ∙ ap (slice_get rests) same ∙ least.here)) left same
     ]
   ]
@@ -125,7 +113,8 @@ module _ {lists : List (List Closed)} where
           by : (j : ℕ) → slice_get (e ∷ more) j ≡ Some a → IsIn (taken ++ e ∷ []) a
               ⊎ ((left : List Closed) × (slice_get (set rests s more) t ≡ Some left) × IsIn left a)
           by zero found = inl (length taken, at_seam taken e ∙ found)
-          by (suc j) found = inr (more, ap (slice_get (set rests s more)) same ∙ set-at rests s (e ∷ more) more least.here, (j, found))
+          by (suc j) found = let there = set_here rests s more (slice_get_within rests s (e ∷ more) least.here) in
+              inr (more, ap (slice_get (set rests s more)) same ∙ there, (j, found))
 
 -- where nothing is left, each is taken
 pub merged_all : (lists : List (List Closed)) (es : List Closed) → IsMerged lists es → (t : ℕ) (list : List Closed) (a : Closed) →
@@ -186,7 +175,7 @@ module _ {Sooner : Closed → Closed → Type 0} (lists : List (List Closed)) (t
 
     later : (a : Closed) → IsIn (taken ++ e ∷ []) a → (t : ℕ) (rest : List Closed) (b : Closed) → slice_get (set rests s more) t ≡ Some rest → IsIn rest b →
         Sooner a b
-    later a (i, at) t rest b there left = elim (at-set rests s t (e ∷ more) more rest least.here there) [
+    later a (i, at) t rest b there left = elim (set_at rests s t more rest there) [
       | inl same ↦ (let mine = left_ends takes s (e ∷ more) least.here in
           let in_more : IsIn more b = (left.0, ap (λ xs. slice_get xs left.0) (sym same.1) ∙ left.1) in
           elim (at-push taken e i a at) [

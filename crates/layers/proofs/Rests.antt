@@ -1,9 +1,10 @@
 -- Lists that are merged by their origins.
-use Rattle.std.proofs.Common.{◌≡◌, ℕ, zero, suc, ◌+◌, ◌-◌, ◌<◌, ◌≤◌, true, false, is_some, ◌⊎◌, inl, MatchOption, List, [], ◌∷◌, ◌++◌, length, take, drop}
+use Rattle.std.proofs.Common.{◌≡◌, ℕ, zero, suc, ◌+◌, ◌-◌, ◌<◌, ◌≤◌, true, false, is_some, ◌⊎◌, inl, MatchOption, List, [], ◌∷◌, ◌++◌, length, drop}
 use Rattle.std.proofs.Common.{get_or, set, Some, None, Option, option_map, inr, refl, sym, ap, subst, ◌∙◌, arith}
 use Rattle.std.proofs.lemmas.Bool.{cases_lt, true≢false}
 use Rattle.std.proofs.lemmas.Cmp.{tied_itself}
 use Rattle.std.proofs.lemmas.List.{length-append, length-drop}
+use Rattle.std.proofs.Math.Seq.{take-length}
 use Rattle.std.proofs.lemmas.Option.{same_Some, none-some, slice_get_within, slice_get_past, get_or_from_slice_get}
 use Rattle.std.specs.Prelude.{slice_get}
 use Rattle.std.specs.Option.{option_to_list}
@@ -52,10 +53,6 @@ first_at [] (suc p) = refl
 first_at (e ∷ es) zero = refl
 first_at (e ∷ es) (suc p) = first_at es p
 
-take_all : {A : Type 0} (xs : List A) → take (length xs) xs ≡ xs
-take_all [] = refl
-take_all (x ∷ xs) = ap (λ ys. x ∷ ys) (take_all xs)
-
 -- the last closed list is what was seen from the last beginning on
 pub last_seen : (a : Inside) (from : ℕ) → 1 ≤ length a.starts.items → slice_get a.starts.items (length a.starts.items - 1) ≡ Some from →
     last_list (book_view a) ≡ drop from a.found.seen
@@ -64,7 +61,7 @@ last_seen a from some at =
     let k = length a.starts.items - 1 in
     ap (λ n. get_or (cut_at a.starts.items a.found.seen) (n - 1) []) long
     ∙ cut_piece a.starts.items a.found.seen k from (length a.found.seen) (at, inr (slice_get_past a.starts.items (suc k) (omega arith), refl))
-    ∙ ap (drop from) (take_all a.found.seen)
+    ∙ ap (drop from) (take-length a.found.seen)
 
 -- ---- one is taken
 

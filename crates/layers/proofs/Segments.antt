@@ -112,15 +112,6 @@ more_taken books starts middles ends squares more_squares origins more_origins f
   origins_are = (λ i. first.origins_are i ++ second.origins_are i) ∙ sym (origins-append first.entries second.entries);
 }
 
--- what holds of each still does once one is another of which it holds
-pub each_kept : {A : Type 0} (P : A → Type 0) (xs : List A) (place : ℕ) (y : A) → P y → ((i : ℕ) (x : A) → slice_get xs i ≡ Some x → P x) → (i : ℕ) (x : A) →
-    slice_get (set xs place y) i ≡ Some x → P x
-each_kept P [] place y new all i x at = absurd (none-some x at)
-each_kept P (z ∷ xs) zero y new all zero x at = subst P (same_Some y x at) new
-each_kept P (z ∷ xs) zero y new all (suc i) x at = all (suc i) x at
-each_kept P (z ∷ xs) (suc place) y new all zero x at = all zero x at
-each_kept P (z ∷ xs) (suc place) y new all (suc i) x at = each_kept P xs place y new (λ j. all (suc j)) i x at
-
 -- where nothing is left, the lists are merged
 pub all_taken : (books : List BookView) (ends squares : List ℕ) (origins : List (Origin Push)) → AreTaken books [] ends squares origins →
     total (left_of books ends) ≡ 0 → AreMerged (map last_list books) (total (map last_list books)) squares origins

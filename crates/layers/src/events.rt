@@ -47,6 +47,9 @@ impl Book {
         ensures { ClaimAnswer self.old result self.new }
     {
         let layer = self.layer();
+        if self.done.are_all_set() {
+            return None;
+        }
         for rank in self.next..self.done.len() {
             if !self.claimed.is_set(rank) && !self.done.is_set(rank) {
                 self.claimed.set(rank);

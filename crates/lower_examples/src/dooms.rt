@@ -113,7 +113,7 @@ fn boxes_need_the_sum_of_their_pushes(rt: HostRuntime) {
     }
 }
 
-// The bound of a board's boxes on these squares.
+// The lower bound of the board's level with its boxes on these squares.
 fn needed(
     rt: &impl Abort,
     alloc: Global,

@@ -23,8 +23,8 @@ pub fn needs_are_bounds(level: &Level)
     ensures tolls { TollsAreFree level.now }
 {}
 
-/// The laws of pushes that never help: a push that costs more than is left never helps, and if it is made now, no play
-/// solves the level with the pushes that are left.
+/// Two laws: a push that costs more than is left never helps; and after a push that never helps, no play solves the
+/// level with the pushes that are left.
 pub fn costs_tell_what_never_helps(level: &Level)
     ensures costs { CostsTell level.now }
     ensures leads { NeverLeadsOn level.now }

@@ -6,8 +6,8 @@
 //! boxes minus the sum of the tolls. That holds for any tolls, so the matching needs no contract; a good one makes
 //! the bound great.
 //!
-//! The memory of [`Distances::of`] grows with the goals times the squares, its time also with the sides of a box from
-//! which it can be pushed. A bound takes no memory.
+//! The memory of [`Distances::of`] grows with the number of goals times the number of squares. Its time also grows with
+//! the number of sides from which a box can be pushed. A bound takes no memory.
 //!
 //! With the `level` of a room of three rows of three squares, the box in the middle, its goal at the top left and the
 //! player at the bottom right:

@@ -1,38 +1,22 @@
 -- Jobs that are dealt to lanes, over plain lists.
-use Rattle.std.proofs.Common.{◌≡◌, ◌∙◌, ℕ, zero, suc, ◌≤◌, ◌<◌, List, [], ◌∷◌, ◌++◌, length, get_or, set, Option, Some, inl, inr, sym, subst, ap, arith, drop, take, false, Vec, Global, Result, Ok, Err}
-use Rattle.std.proofs.lemmas.Option.{none-some, same_Some, slice_get-get_or}
+use Rattle.std.proofs.Common.{◌≡◌, ◌∙◌, ℕ, suc, ◌≤◌, ◌<◌, List, [], ◌∷◌, ◌++◌, length, get_or, Option, Some, sym, subst, ap, arith, drop, take, false, Vec}
+use Rattle.std.proofs.Common.{Global, Result, Ok, Err}
+use Rattle.std.proofs.lemmas.Option.{slice_get-get_or}
 use Rattle.std.proofs.lemmas.Bool.{false≢true}
 use Rattle.std.proofs.Math.Seq.{take-append_seam}
 use Rattle.std.specs.Prelude.{◌^◌, OnOk, slice_get}
 use Rattle.std.specs.Vec.{with_items}
-use Rattle.grid.specs.Board.{Board, Scene, IsSolved}
+use Rattle.grid.specs.Board.{Board, IsSolved}
 use Rattle.grid.specs.States.{FitsLevel}
 use Rattle.store.specs.Visited.{Entry, VisitedView}
 use Rattle.successors.specs.Tasks.{Task}
+use Rattle.successors.proofs.lemmas.Lists.{each_push}
 use Rattle.prover.specs.declared.lane.Job.{Job}
 use Rattle.prover.specs.declared.pushing.Expanded.{Expanded}
 use Rattle.prover.specs.inside.Rounds.{AreJobs, IsJob}
-use Rattle.prover.specs.inside.Working.{IsLeastOpen, IsReady, IsSearched, IsWaiting}
-use Rattle.prover.proofs.Entering.{either_at}
+use Rattle.prover.specs.inside.Working.{IsReady, IsSearched, IsWaiting}
 
--- what holds of each element of a list, when one is another of which it holds
-pub each_set : {A : Type 0} (P : A → Type 0) (xs : List A) (i : ℕ) (y : A) → P y → ((j : ℕ) (z : A) → slice_get xs j ≡ Some z → P z) →
-    (j : ℕ) (z : A) → slice_get (set xs i y) j ≡ Some z → P z
-each_set P [] i y new each j z at = absurd (none-some z at)
-each_set P (x ∷ xs) zero y new each zero z at = subst P (same_Some y z at) new
-each_set P (x ∷ xs) zero y new each (suc j) z at = each (suc j) z at
-each_set P (x ∷ xs) (suc i) y new each zero z at = each zero z at
-each_set P (x ∷ xs) (suc i) y new each (suc j) z at = each_set P xs i y new (λ k w. each (suc k) w) j z at
-
--- and when there is one more
-pub each_push : {A : Type 0} (P : A → Type 0) (xs : List A) (y : A) → P y → ((j : ℕ) (z : A) → slice_get xs j ≡ Some z → P z) →
-    (j : ℕ) (z : A) → slice_get (xs ++ y ∷ []) j ≡ Some z → P z
-each_push P xs y new each j z at = elim (either_at xs y j z at) [
-  | inl h ↦ each j z h
-  | inr (p, q) ↦ subst P (sym q) new
-]
-
--- and of the one at a place
+-- what holds of each element of a list holds of the one at a place
 pub each_at : {A : Type 0} (P : A → Type 0) (xs : List A) (i : ℕ) → i < length xs → ((j : ℕ) (z : A) → slice_get xs j ≡ Some z → P z) →
     (d : A) → P (get_or xs i d)
 each_at P xs i lt each d = each i (get_or xs i d) (slice_get-get_or xs i d lt)

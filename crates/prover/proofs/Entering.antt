@@ -1,54 +1,15 @@
 -- How positions enter, over plain lists.
-use Rattle.std.proofs.Common.{◌≡◌, ◌≢◌, ℕ, zero, suc, ◌+◌, ◌-◌, ◌*◌, ◌≤◌, ◌<◌, ◌⊎◌, List, [], ◌∷◌, ◌++◌, length, Option, None, Some, inl, inr, refl, sym, ap}
+use Rattle.std.proofs.Common.{◌≡◌, ℕ, zero, suc, ◌+◌, ◌-◌, ◌*◌, ◌≤◌, ◌<◌, List, [], ◌∷◌, ◌++◌, length, Option, None, Some, inl, inr, refl, sym, ap}
 use Rattle.std.proofs.Common.{subst, ◌∙◌, arith, set}
 use Rattle.std.proofs.lemmas.Bool.{cases_eq}
 use Rattle.std.proofs.lemmas.List.{length-append, length-set}
 use Rattle.std.proofs.lemmas.Option.{none-some, same_Some, slice_get_within}
 use Rattle.std.specs.Prelude.{slice_get}
 use Rattle.store.specs.Visited.{Entry, HasEntered, IsNew}
+use Rattle.successors.proofs.lemmas.Lists.{at-push, at_before, at_seam, set_at, set_here, set_there}
 use Rattle.prover.specs.inside.Working.{Enters, GoesOn, openness, turns, turns_left}
 
 -- ---- lists
-
-pub in_front : {A : Type 0} (xs ys : List A) (i : ℕ) (x : A) → slice_get xs i ≡ Some x → slice_get (xs ++ ys) i ≡ Some x
-in_front [] ys i x e = absurd (let lt = slice_get_within [] i x e in omega (arith, lt))
-in_front (z ∷ xs) ys zero x e = e
-in_front (z ∷ xs) ys (suc i) x e = in_front xs ys i x e
-
-pub last_at : {A : Type 0} (xs : List A) (y : A) → slice_get (xs ++ y ∷ []) (length xs) ≡ Some y
-last_at [] y = refl
-last_at (x ∷ xs) y = last_at xs y
-
--- an element of a list with one more was there before, or is the last
-pub either_at : {A : Type 0} (xs : List A) (y : A) (i : ℕ) (x : A) → slice_get (xs ++ y ∷ []) i ≡ Some x →
-    (slice_get xs i ≡ Some x) ⊎ ((i ≡ length xs) × (x ≡ y))
-either_at [] y zero x e = inr (refl, sym (same_Some y x e))
-either_at [] y (suc i) x e = absurd (let lt = slice_get_within (y ∷ []) (suc i) x e in omega (arith, lt))
-either_at (z ∷ xs) y zero x e = inl e
-either_at (z ∷ xs) y (suc i) x e = elim (either_at xs y i x e) [
-  | inl h ↦ inl h
-  | inr (p, q) ↦ inr (ap suc p, q)
-]
-
-pub set_here : {A : Type 0} (xs : List A) (i : ℕ) (x y : A) → slice_get xs i ≡ Some x → slice_get (set xs i y) i ≡ Some y
-set_here [] i x y e = absurd (none-some x e)
-set_here (z ∷ xs) zero x y e = refl
-set_here (z ∷ xs) (suc i) x y e = set_here xs i x y e
-
-pub set_there : {A : Type 0} (xs : List A) (i j : ℕ) (y : A) → j ≢ i → slice_get (set xs i y) j ≡ slice_get xs j
-set_there [] i j y ne = refl
-set_there (z ∷ xs) zero zero y ne = absurd (ne refl)
-set_there (z ∷ xs) zero (suc j) y ne = refl
-set_there (z ∷ xs) (suc i) zero y ne = refl
-set_there (z ∷ xs) (suc i) (suc j) y ne = set_there xs i j y (λ e. ne (ap suc e))
-
--- an element of a list after a write was there before, or is the written one
-pub set_either : {A : Type 0} (xs : List A) (i j : ℕ) (x y z : A) → slice_get xs i ≡ Some x → slice_get (set xs i y) j ≡ Some z →
-    ((j ≡ i) × (z ≡ y)) ⊎ ((j ≢ i) × (slice_get xs j ≡ Some z))
-set_either xs i j x y z here e = elim (cases_eq j i) [
-  | inl same ↦ inl (same, sym (same_Some y z (sym (set_here xs i x y here) ∙ (ap (λ (k : ℕ). slice_get (set xs i y) k) (sym same) ∙ e))))
-  | inr ne ↦ inr (ne, sym (set_there xs i j y ne) ∙ e)
-]
 
 -- a place before the end has an element
 pub in_range : {A : Type 0} (xs : List A) (i : ℕ) → i < length xs → (x : A) × (slice_get xs i ≡ Some x)
@@ -91,8 +52,11 @@ added_turns old y few =
           omega (arith, sum, one, step, few, long, le));
     }
   where
-    one_less : (limit n m : ℕ) → m ≡ suc n → m ≤ limit → (limit - n) * (4294967297 * limit + 4294967297) ≡ (limit - m) * (4294967297 * limit + 4294967297) + (4294967297 * limit + 4294967297)
-    one_less limit n m e le = let f : limit - n ≡ suc (limit - m) = omega (arith, e, le) in ap (λ (k : ℕ). k * (4294967297 * limit + 4294967297)) f ∙ omega arith
+    one_less : (limit n m : ℕ) → m ≡ suc n → m ≤ limit →
+        (limit - n) * (4294967297 * limit + 4294967297) ≡ (limit - m) * (4294967297 * limit + 4294967297) + (4294967297 * limit + 4294967297)
+    one_less limit n m e le =
+        let f : limit - n ≡ suc (limit - m) = omega (arith, e, le) in
+        ap (λ (k : ℕ). k * (4294967297 * limit + 4294967297)) f ∙ omega arith
 
 -- a write that lessens an entry lessens the turns
 pub fewer_turns : (old : List Entry) (i limit : ℕ) (x y : Entry) → slice_get old i ≡ Some x →
@@ -100,21 +64,23 @@ pub fewer_turns : (old : List Entry) (i limit : ℕ) (x y : Entry) → slice_get
 fewer_turns old i limit x y at less =
     let sum = turns_set old i x y at in
     let long = length-set old i y in
-    let same : (limit - length (set old i y)) * (4294967297 * limit + 4294967297) ≡ (limit - length old) * (4294967297 * limit + 4294967297) = ap (λ (k : ℕ). (limit - k) * (4294967297 * limit + 4294967297)) long in
+    let same : (limit - length (set old i y)) * (4294967297 * limit + 4294967297)
+    ≡ (limit - length old) * (4294967297 * limit + 4294967297) =
+    ap (λ (k : ℕ). (limit - k) * (4294967297 * limit + 4294967297)) long in
     omega (arith, sum, same, less)
 
 -- ---- a position enters
 
 entered_new : (old : List Entry) (e : Entry) → IsNew old e.position → Enters old (old ++ e ∷ []) e
 entered_new old e fresh = record {
-  still = λ i x at. (x, in_front old (e ∷ []) i x at, refl, omega arith);
-  below = λ i x at le. in_front old (e ∷ []) i x at;
-  found = (length old, e, last_at old e, refl, omega arith);
-  each = λ i z at. elim (either_at old e i z at) [
+  still = λ i x at. (x, at_before old (e ∷ []) i x at, refl, omega arith);
+  below = λ i x at le. at_before old (e ∷ []) i x at;
+  found = (length old, e, at_seam old e, refl, omega arith);
+  each = λ i z at. elim (at-push old e i z at) [
     | inl h ↦ inl h
     | inr (p, q) ↦ inr q
   ];
-  few = λ low few i z at. (let long = length-append old (e ∷ []) in elim (either_at old e i z at) [
+  few = λ low few i z at. (let long = length-append old (e ∷ []) in elim (at-push old e i z at) [
     | inl h ↦ (let lt = few i z h in omega (arith, lt, long))
     | inr (p, q) ↦ (let same = ap (λ (w : Entry). w.pushes) q in omega (arith, low, long, same))
   ]);
@@ -138,7 +104,7 @@ entered_again old e x i at same lt = record {
   still = λ j z there. elim (cases_eq j i) [
     | inl eq ↦ (let is = here j z there eq in (
       e,
-      ap (λ (k : ℕ). slice_get (set old i e) k) eq ∙ set_here old i x e at,
+      ap (λ (k : ℕ). slice_get (set old i e) k) eq ∙ set_here old i e inside,
       sym same ∙ ap (λ (w : Entry). w.position) (sym is),
       (let p = ap (λ (w : Entry). w.pushes) is in omega (arith, lt, p)),
     ))
@@ -148,12 +114,12 @@ entered_again old e x i at same lt = record {
     | inl eq ↦ absurd (let p = ap (λ (w : Entry). w.pushes) (here j z there eq) in omega (arith, lt, few, p))
     | inr ne ↦ set_there old i j e ne ∙ there
   ];
-  found = (i, e, set_here old i x e at, refl, omega arith);
-  each = λ j z there. elim (set_either old i j x e z at there) [
+  found = (i, e, set_here old i e inside, refl, omega arith);
+  each = λ j z there. elim (set_at old i j e z there) [
     | inl (p, q) ↦ inr q
     | inr (p, q) ↦ inl q
   ];
-  few = λ low few j z there. (let long = length-set old i e in elim (set_either old i j x e z at there) [
+  few = λ low few j z there. (let long = length-set old i e in elim (set_at old i j e z there) [
     | inl (p, q) ↦ (let same = ap (λ (w : Entry). w.pushes) q in let less = few i x at in omega (arith, lt, less, same, long))
     | inr (p, q) ↦ (let less = few j z q in omega (arith, less, long))
   ]);
@@ -163,6 +129,9 @@ entered_again old e x i at same lt = record {
   });
 }
   where
+    inside : i < length old
+    inside = slice_get_within old i x at
+
     here : (j : ℕ) (z : Entry) → slice_get old j ≡ Some z → j ≡ i → z ≡ x
     here j z there eq = same_Some z x (sym there ∙ (ap (λ (k : ℕ). slice_get old k) eq ∙ at))
 

@@ -1,5 +1,5 @@
 -- The queue of open positions, over plain lists.
-use Rattle.std.proofs.Common.{IfNone, IfSome, ◌≡◌, ℕ, zero, suc, ◌+◌, ◌≤◌, ◌<◌, ◌⊎◌, List, [], ◌∷◌, ◌++◌, length, Option, None, Some, inl, inr, refl, sym, ap, subst}
+use Rattle.std.proofs.Common.{IfNone, IfSome, ◌≡◌, ℕ, zero, suc, ◌+◌, ◌≤◌, ◌⊎◌, List, [], ◌∷◌, ◌++◌, length, Option, None, Some, inl, inr, refl, sym, ap, subst}
 use Rattle.std.proofs.Common.{◌∙◌, arith, false, slice_index_or, slice_set}
 use Rattle.std.proofs.lemmas.List.Sorted.{Contains-permutation, length_permutation}
 use Rattle.std.proofs.lemmas.Map.Keys.{ge_from_not_lt}
@@ -13,11 +13,11 @@ use Rattle.std.specs.List.Sorted.{IsPermutation}
 use Rattle.std.specs.Ordering.{is_lt, ordering_then}
 use Rattle.std.specs.Prelude.{MatchOption, option_to_list, slice_get}
 use Rattle.store.specs.Visited.{Entry, HasEntered, with_least}
+use Rattle.successors.proofs.lemmas.Lists.{at-push, set_at}
 use Rattle.prover.specs.declared.queue.Ticket.{Ticket}
 use Rattle.prover.specs.Frontier.{AreClosed}
 use Rattle.prover.specs.inside.Tickets.{ticket_cmp}
 use Rattle.prover.specs.inside.Working.{HasLeastAt, IsFirst, IsLeastOpen, IsQueued, Waits}
-use Rattle.prover.proofs.Entering.{either_at, set_either}
 
 -- ---- tickets
 
@@ -237,12 +237,12 @@ queued_more old new e place least before after is entered queued here others = b
         subst (λ (k : ℕ). Waits after n k) (sym same) (subst (λ (k : ℕ). Waits after k place) m here)
 
     by : HasEntered old new e (Some place) → IsQueued new after
-    by (inl (end, shape, fresh)) i x n at open_ = elim (either_at old e i x (ap (λ (xs : List Entry). slice_get xs i) (sym shape) ∙ at)) [
+    by (inl (end, shape, fresh)) i x n at open_ = elim (at-push old e i x (ap (λ (xs : List Entry). slice_get xs i) (sym shape) ∙ at)) [
       | inl h ↦ others n i (queued i x n h open_)
       | inr (p, q) ↦ new_one i n x (p ∙ sym end) q open_
     ]
     by (inr (y, there, same, lt, shape)) i x n at open_ =
-        elim (set_either old place i y e x there (ap (λ (xs : List Entry). slice_get xs i) (sym shape) ∙ at)) [
+        elim (set_at old place i e x (ap (λ (xs : List Entry). slice_get xs i) (sym shape) ∙ at)) [
           | inl (p, q) ↦ new_one i n x p q open_
           | inr (p, q) ↦ others n i (queued i x n q open_)
         ]
@@ -254,7 +254,7 @@ pub queued_set : (old new : List Entry) (x : Entry) (place : ℕ) (least : Optio
 queued_set old new x place least before after here has queued waits others = subst (λ (xs : List Entry). IsQueued xs after) (sym (has x here)) shown
   where
     shown : IsQueued (slice_set old place (with_least least x)) after
-    shown i z n at open_ = elim (set_either old place i x (with_least least x) z here at) [
+    shown i z n at open_ = elim (set_at old place i (with_least least x) z at) [
       | inl (p, q) ↦ subst (λ (k : ℕ). Waits after n k) (sym p) (waits n (ap (λ (w : Entry). w.least) (sym q) ∙ open_))
       | inr (p, q) ↦ others n i (queued i z n q open_)
     ]

@@ -25,6 +25,7 @@ use Rattle.corrals.specs.Corrals.{IsClosure}
 use Rattle.corrals.specs.Trying.{Suffice}
 use Rattle.corrals.proofs.lemmas.Corrals.{corrals_suffice}
 use Rattle.successors.specs.Expansion.{after_push}
+use Rattle.successors.proofs.lemmas.Lists.{at-push, at_before, at_seam, set_at, set_here, set_there}
 use Rattle.prover.specs.declared.pushing.Expanded.{Expanded}
 use Rattle.prover.specs.declared.pushing.Opened.{Opened}
 use Rattle.prover.specs.Fewest.{IsReachable}
@@ -36,7 +37,7 @@ use Rattle.prover.specs.inside.Working.{AreEntered, IsOpenedPosition, IsOpenedBy
 use Rattle.prover.proofs.lemmas.Pruning.{after_scene, all_suffice, keeps_so, pushed_from, pushed_push}
 use Rattle.prover.proofs.Openings.{allows_fewer, found_on, settled_open, settled_expanded, sound_on}
 use Rattle.prover.proofs.Deferring.{lesser_below}
-use Rattle.prover.proofs.Entering.{either_at, in_front, last_at, set_here, set_there, set_either, same_turns, fewer_turns}
+use Rattle.prover.proofs.Entering.{same_turns, fewer_turns}
 
 -- what follows from a good answer
 pub on_ok_so : {T E A B : Type 0} (r : Result T E) → (A → B) → OnOk r A → OnOk r B
@@ -90,7 +91,8 @@ pub taken_less : (board : Board) (cap lower : Option ℕ) (Kept : Scene → Type
     IsTaken board cap Kept k s p → IsTaken board lower Kept k s p
 taken_less board cap lower Kept k s p narrows taken m allowed = taken m (narrows (k + suc m) allowed)
 
-pub are_taken_less : (board : Board) (cap lower : Option ℕ) (Kept : Scene → Type 0) (Tried : Push → Type 0) (k : ℕ) (s : Scene) (pushes : List Push) (count : ℕ) →
+pub are_taken_less : (board : Board) (cap lower : Option ℕ) (Kept : Scene → Type 0) (Tried : Push → Type 0) (k : ℕ) (s : Scene)
+    (pushes : List Push) (count : ℕ) →
     ((m : ℕ) → Allows lower m → Allows cap m) → AreTaken board cap Kept Tried k s pushes count → AreTaken board lower Kept Tried k s pushes count
 are_taken_less board cap lower Kept Tried k s pushes count narrows taken i p lt there tried =
     taken_less board cap lower Kept k s p narrows (taken i p lt there tried)
@@ -176,19 +178,20 @@ opens_then board cap from first second third one two = record {
 pub opens_one : (board : Board) (cap : Option ℕ) (from : Expanded) (opened new : List Opened) (o : Opened) → new ≡ opened ++ o ∷ [] →
     IsOpenedBy board cap from o → Opens board cap from opened new
 opens_one board cap from opened new o is by = subst (Opens board cap from opened) (sym is) (record {
-  still = λ t (i, u, at, same). (i, u, in_front opened (o ∷ []) i u at, same);
-  each = λ each i u at. elim (either_at opened o i u at) [
+  still = λ t (i, u, at, same). (i, u, at_before opened (o ∷ []) i u at, same);
+  each = λ each i u at. elim (at-push opened o i u at) [
     | inl h ↦ each i u h
     | inr (p, q) ↦ subst (IsOpenedBy board cap from) (sym q) by
   ];
 })
 
 pub listed_last : (opened new : List Opened) (o : Opened) → new ≡ opened ++ o ∷ [] → IsOpenedPosition new o.position
-listed_last opened new o is = subst (λ (os : List Opened). IsOpenedPosition os o.position) (sym is) (length opened, o, last_at opened o, refl)
+listed_last opened new o is = subst (λ (os : List Opened). IsOpenedPosition os o.position) (sym is) (length opened, o, at_seam opened o, refl)
 
 -- where each position that was opened has entered, what the expansion keeps was found
 pub expands_found : (board : Board) (cap : Option ℕ) (opened : List Opened) (all : List Entry) (k : ℕ) (s : Scene) →
-    ((t : Scene) → IsOpenedPosition opened t → IsFound all (suc k) t) → Expands board cap (IsOpenedPosition opened) k s → Expands board cap (IsFound all (suc k)) k s
+    ((t : Scene) → IsOpenedPosition opened t → IsFound all (suc k) t) → Expands board cap (IsOpenedPosition opened) k s →
+    Expands board cap (IsFound all (suc k)) k s
 expands_found board cap opened all k s entered expands most allowed =
     keeps_so board (IsOpenedPosition opened) (IsFound all (suc k)) most k s entered (expands most allowed)
 
@@ -261,11 +264,11 @@ pub under_way_set : (board : Board) (cap : Option ℕ) (old new : List Entry) (p
     IsSettled board cap old (with_least least x) → HasLeastAt old place least new → IsUnderWay board cap new
 under_way_set board cap old new place x least under here total settled has = subst (IsUnderWay board cap) (sym (has x here)) (record {
   begun = (under.begun.0, under.begun.1, found_on old after 0 under.begun.0 still under.begun.2);
-  few = λ i z there. (let long = length-set old place y in elim (set_either old place i x y z here there) [
+  few = λ i z there. (let long = length-set old place y in elim (set_at old place i y z there) [
     | inl (p, q) ↦ (let same = ap (λ (w : Entry). w.pushes) q in let less = under.few place x here in omega (arith, same, less, long))
     | inr (p, q) ↦ (let less = under.few i z q in omega (arith, less, long))
   ]);
-  sound = λ i z there. elim (set_either old place i x y z here there) [
+  sound = λ i z there. elim (set_at old place i y z there) [
     | inl (p, q) ↦ subst (IsSound board cap after) (sym q) sound
     | inr (p, q) ↦ sound_on board cap old after z still (under.sound i z q)
   ];
@@ -281,7 +284,7 @@ under_way_set board cap old new place x least under here total settled has = sub
     still i z there = elim (cases_eq i place) [
       | inl eq ↦ (let e : z ≡ x = same_Some z x (sym there ∙ (ap (λ (k : ℕ). slice_get old k) eq ∙ here)) in (
         y,
-        ap (λ (k : ℕ). slice_get after k) eq ∙ set_here old place x y here,
+        ap (λ (k : ℕ). slice_get after k) eq ∙ set_here old place y (slice_get_within old place x here),
         ap (λ (w : Entry). w.position) (sym e),
         (let f = ap (λ (w : Entry). w.pushes) e in omega (arith, f)),
       ))

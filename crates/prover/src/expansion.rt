@@ -1,6 +1,6 @@
 //! Expansions: each opens the positions that the pushes of one position lead to. It leaves out pushes that no shortest
-//! solution needs, and leaves those with a greater total for later. What it finds depends on the position, on the pushes
-//! that led to it and on the total that the search has reached, and not on what else was found.
+//! solution needs, and leaves those with a greater total for later. What it finds depends on the position, on the
+//! pushes that led to it and on the total that the search has reached, and not on what else was found.
 ghost use Rattle.std.specs.Prelude.{◌≡◌, ℕ, ◌<◌, ◌≤◌, OnOk, [], length};
 ghost use Rattle.prover.specs.inside.Working.{GoesOn, IsExpandable, IsExpansion, IsReady, IsSearched};
 ghost use Rattle.prover.specs.inside.Working.{IsWaiting, turns_left};
@@ -13,8 +13,8 @@ use crate::workspace::Workspace;
 use prices::{Matching, Slack};
 use std::alloc::AllocError;
 
-/// Expands an open position for totals up to `from.reach`. Its least total becomes the least of the totals that are left
-/// for later. It is closed if there is none.
+/// Expands an open position for totals up to `from.reach`. Its least total becomes the least of the totals that are
+/// left for later. It is closed if there is none.
 pub(crate) fn expand(
     pruner: &Pruner<'_>,
     frontier: &mut Frontier,

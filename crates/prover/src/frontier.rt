@@ -1,5 +1,6 @@
 //! The positions that a search has found, of which some are open.
-ghost use Rattle.std.specs.Prelude.{◌≡◌, ◌<◌, ◌≤◌, ◌↔◌, ◌^◌, ℕ, IfNone, IfOk, IfSome, IsTrue, IsFalse, None, OnOk, Some, [], length};
+ghost use Rattle.std.specs.Prelude.{◌≡◌, ◌<◌, ◌≤◌, ◌↔◌, ◌^◌, ℕ, IfNone, IfOk, IfSome, IsTrue, IsFalse, None};
+ghost use Rattle.std.specs.Prelude.{OnOk, Some, [], length};
 ghost use Rattle.std.specs.Prelude.{map, slice_get};
 ghost use Rattle.grid.specs.Lawful.{box_count};
 ghost use Rattle.store.specs.FoundView.{FitsGrid};
@@ -150,8 +151,8 @@ impl Frontier {
         Ok(None)
     }
 
-    /// Takes the next open position of those with a least total of at most `reach`, and gives its place. It is not taken
-    /// again before the next call of [`Frontier::least_open`]. Fails only if out of memory.
+    /// Takes the next open position of those with a least total of at most `reach`, and gives its place. It is not
+    /// taken again before the next call of [`Frontier::least_open`]. Fails only if out of memory.
     pub(crate) fn take_open(&mut self, reach: u32) -> Result<Option<usize>, AllocError>
         ensures place { IfOk result (λ next. IfSome next (λ place. place < length self.new.entries)) }
         ensures same { self.new ≡ self.old }

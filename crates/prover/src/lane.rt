@@ -11,8 +11,8 @@ use crate::workspace::Workspace;
 use std::alloc::{AllocError, Global};
 use std::mem::swap;
 
-/// A position of a round. Once the job is done, also the positions that its expansion has opened, and the least total of
-/// the pushes that it has left for later.
+/// A position of a round. Once the job is done, also the positions that its expansion has opened, and the least total
+/// of the pushes that it has left for later.
 #[derive(Debug, Drop)]
 pub(crate) struct Job {
     pub(crate) from: Expanded,

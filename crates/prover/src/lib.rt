@@ -7,8 +7,9 @@
 //! a position has a solution that the cap allows, some push that its expansions keep leads on to a solution with as few
 //! pushes.
 //!
-//! A search goes in rounds. A round expands the open position of the least total, and then others whose totals the search
-//! has reached, side by side. What it finds does not depend on the number of workers, unless one runs out of memory.
+//! A search goes in rounds. A round expands the open position of the least total, and then others whose totals the
+//! search has reached, side by side. What it finds does not depend on the number of workers, unless one runs out of
+//! memory.
 //!
 //! With the `level` of a room of three rows of three squares, the box in the middle, its goal at the top left and the
 //! player at the bottom right:

@@ -45,8 +45,8 @@ impl<'a> Pruner<'a> {
         })
     }
 
-    /// Chooses regions and makes their tables, each of at most `bytes` bytes, in at most `workers` threads. Fails only if
-    /// out of memory.
+    /// Chooses regions and makes their tables, each of at most `bytes` bytes, in at most `workers` threads. Fails only
+    /// if out of memory.
     pub(crate) fn make_tables<R: Threads + Sync>(
         &mut self,
         rt: &R,

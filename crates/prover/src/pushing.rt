@@ -2,7 +2,8 @@
 ghost use Rattle.std.specs.Prelude.{◌≡◌, ◌+◌, ℕ, suc, OnOk};
 ghost use Rattle.area.specs.Pushes.{CanPush};
 ghost use Rattle.successors.specs.Expanding.{HasPushesOf};
-ghost use Rattle.prover.specs.inside.Working.{Defers, IsChosen, IsExpandable, IsOpenedPosition, IsTaken, Opens, lesser, tighter};
+ghost use Rattle.prover.specs.inside.Working.{Defers, IsChosen, IsExpandable, IsOpenedPosition, IsTaken, Opens};
+ghost use Rattle.prover.specs.inside.Working.{lesser, tighter};
 
 use crate::pruner::{Pruner, total_of};
 use crate::workspace::Workspace;
@@ -45,8 +46,8 @@ pub(crate) fn try_push(
     requires expandable { IsExpandable pruner.now.board from.now }
     requires slack { (slack.now.board ≡ pruner.now.board) × (slack.now.scene ≡ from.now.position) }
     ensures taken { OnOk result (IsChosen only workspace.old.corral.held push →
-        IsTaken pruner.now.board (tighter pruner.now.cap workspace.new.next) (IsOpenedPosition workspace.new.opened.items)
-        from.now.pushes from.now.position push) }
+        IsTaken pruner.now.board (tighter pruner.now.cap workspace.new.next)
+        (IsOpenedPosition workspace.new.opened.items) from.now.pushes from.now.position push) }
     ensures defers { OnOk result (Defers pruner.now.cap from.now.reach workspace.old.next workspace.new.next) }
     ensures opens { OnOk result (Opens pruner.now.board pruner.now.cap from.now workspace.old.opened.items
         workspace.new.opened.items) }

@@ -2,7 +2,8 @@
 ghost use Rattle.std.specs.Prelude.{◌≡◌, ℕ, suc, ◌<◌, ◌≤◌, OnOk, length};
 ghost use Rattle.grid.specs.Board.{Scene};
 ghost use Rattle.prover.specs.Frontier.{IsFound};
-ghost use Rattle.prover.specs.inside.Working.{AreOpenedBy, IsExpanding, IsExpansion, IsOpenedPosition, IsOpenedBy, IsSearched};
+ghost use Rattle.prover.specs.inside.Working.{AreOpenedBy, IsExpanding, IsExpansion, IsOpenedPosition};
+ghost use Rattle.prover.specs.inside.Working.{IsOpenedBy, IsSearched};
 ghost use Rattle.prover.specs.inside.Working.{GoesOn, IsReady, IsWaiting, Widens, turns_left};
 
 use crate::frontier::Frontier;

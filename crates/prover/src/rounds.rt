@@ -18,8 +18,8 @@ use std::thread::Threads;
 /// The number of lanes. It bounds the workers of a round.
 const LANES: usize = 16;
 
-/// A round takes one position for each `FOUND_EACH` that were found. More of them keep more workers busy, but the search
-/// expands them before it knows what the first ones lead to.
+/// A round takes one position for each `FOUND_EACH` that were found. More of them keep more workers busy, but the
+/// search expands them before it knows what the first ones lead to.
 const FOUND_EACH: usize = 64;
 
 /// The greatest number of positions of a round.

@@ -50,9 +50,9 @@ pub(crate) enum SearchEnd {
     Limit(u32),
 }
 
-/// Searches for a solution with the fewest pushes, in at most `workers` threads (0 counts as 1, and more than 16 as 16).
-/// With a cap it looks only for solutions with at most that many pushes. A part whose thread cannot start is done in the
-/// caller's thread, and so is what a thread had no memory for.
+/// Searches for a solution with the fewest pushes, in at most `workers` threads (0 counts as 1, and more than 16 as
+/// 16). With a cap it looks only for solutions with at most that many pushes. A part whose thread cannot start is done
+/// in the caller's thread, and so is what a thread had no memory for.
 ///
 /// Only a search with a cap gives [`Outcome::NoneWithin`], and only one without a cap gives [`Outcome::Unsolvable`].
 /// [`Outcome::Limit`] means that the search found more positions than the limit. It is tested, not proved, that a

@@ -41,7 +41,7 @@ pub(crate) struct Ground {
     pub(crate) places: Vec<u8>,
     /// By place: 0 is outside.
     pub(crate) spots: Vec<Spot>,
-    /// The place of each seat.
+    /// For each seat, in order, the place of its square.
     pub(crate) seats: Vec<u8>,
     /// The pulls of boxes from the first seat, then from the second and so on, then those of boxes that are not seen.
     pub(crate) pulls: Vec<Pull>,

@@ -92,7 +92,7 @@ fn low_rows(alloc: Global, half: usize, row: u32) -> Result<Vec<u32>, AllocError
 }
 
 impl Rows {
-    /// Where the entries of a set begin.
+    /// The index of the first entry of a set.
     #[inline(always)]
     pub(crate) fn start(&self, set: u32) -> usize {
         let high = number_at(self.high.as_slice(), (set >> (self.half % 32)) as usize);

@@ -114,7 +114,7 @@ impl Finder {
         self.queue.clear();
     }
 
-    // Appends a square to the queue, unless the search came to it before.
+    // Appends a square to the queue, unless the search has visited it.
     fn visit(&mut self, square: Square) -> Result<(), AllocError> {
         let search = self.search;
         if let Some(seen) = self.seen.as_mut_slice().get_mut(square.0 as usize) {

@@ -1,17 +1,16 @@
 -- The best solution, read from the start on.
-use Rattle.std.proofs.Common.{◌≡◌, ℕ, zero, suc, ◌+◌, ◌≤◌, ◌<◌, ◌⊎◌, true, false, List, [], ◌∷◌, ◌++◌, length, Option, None, Some, inl, inr, append_assoc, append-nil}
+use Rattle.std.proofs.Common.{◌≡◌, ℕ, zero, suc, ◌+◌, ◌≤◌, ◌<◌, true, List, [], ◌∷◌, ◌++◌, length, Option, None, Some, inl, inr, append_assoc, append-nil}
 use Rattle.std.proofs.Common.{refl, sym, ap, subst, ◌∙◌, arith}
 use Rattle.std.proofs.lemmas.Bool.{cases_lt}
 use Rattle.std.proofs.lemmas.List.{length-append}
-use Rattle.std.proofs.lemmas.Option.{none-some, same_Some, slice_get_within}
+use Rattle.std.proofs.lemmas.Option.{slice_get_within}
 use Rattle.std.specs.List.{count_by}
 use Rattle.std.specs.Prelude.{slice_get}
-use Rattle.grid.specs.declared.dir.Dir.{Dir}
 use Rattle.grid.specs.declared.moves.Letter.{Letter}
 use Rattle.grid.specs.declared.square.Push.{Push}
 use Rattle.grid.specs.Squares.{Squares, contains}
 use Rattle.grid.specs.Board.{Board, Scene, IsSolved, dir_cmp, is_goal, next, opposite, start}
-use Rattle.grid.specs.Plays.{Play, Any, IsSolution, letters_of, push, shortlex}
+use Rattle.grid.specs.Plays.{Play, Any, push}
 use Rattle.grid.specs.States.{IsScene}
 use Rattle.grid.proofs.lemmas.Orders.{shortlex-length}
 use Rattle.grid.proofs.lemmas.Plays.{play-append, walk_keeps_boxes}
@@ -27,9 +26,9 @@ use Rattle.store.specs.Visited.{Entry}
 use Rattle.successors.specs.Expansion.{after_push}
 use Rattle.successors.specs.LeastPlays.{ArePlayed, WritesLeastPlay}
 use Rattle.shortest.specs.Shortest.{NoneIsBetter}
-use Rattle.shortest.specs.inside.Resting.{EndsSolvedBy, IsAtMost}
+use Rattle.shortest.specs.inside.Resting.{EndsSolvedBy}
 use Rattle.shortest.specs.inside.Listing.{AreAll, IsAtPlace, StatesView}
-use Rattle.shortest.specs.inside.Resting.{AreRests, Finishes, IsOnward, IsReading, IsRestOf, IsWay, LeadsOn}
+use Rattle.shortest.specs.inside.Resting.{AreRests, Finishes, IsOnward, IsReading, IsRestOf, IsWay}
 use Rattle.shortest.specs.inside.Walking.{IsWalkLength}
 use Rattle.shortest.specs.declared.ways.Way.{Way}
 use Rattle.shortest.proofs.Layering.{in_range}
@@ -122,7 +121,8 @@ pub rest_here : (v : StatesView) (rests : List (Option ℕ)) (total place k m : 
 rest_here v rests total place k m s read is reading here sum =
     let (same, many) = one_at v.entries place reading.entry.pushes k reading.entry.position s (reading.entry, reading.at, refl, refl) here in (
       reading.rest,
-      subst (λ (t : Scene). IsRestOf v.board m t (Some reading.rest)) same (is.each place m reading.entry (Some reading.rest) (omega arith) reading.at reading.rest_is (omega (arith, sum, many))),
+      subst (λ (t : Scene). IsRestOf v.board m t (Some reading.rest)) same
+          (is.each place m reading.entry (Some reading.rest) (omega arith) reading.at reading.rest_is (omega (arith, sum, many))),
       λ ps finishes. reading.on ps (subst (λ (t : Scene). Finishes v.board t ps reading.rest) (sym same) finishes),
       reading.count ∙ many,
     )
@@ -139,9 +139,10 @@ way_exists v rests total place k s read is reading here fewer none =
     (none m at_all).is.least ds ps t play solved few
 
 -- one more push is read
-pub reading_more : (v : StatesView) (rests : List (Option ℕ)) (total place k : ℕ) (s : Scene) (read : List Push) (way : Way) → AreAll v → AreRests v.board v.most 0 v.entries rests →
-    IsReading v.board v.entries rests total place read → IsAtPlace v.entries place s k → k < v.most → IsWay v.board v.entries rests k s way →
-    ((m : ℕ) → k + suc m ≡ v.most → IsRestOf v.board (suc m) s (Some way.moves)) → IsReading v.board v.entries rests total way.place (read ++ way.push ∷ [])
+pub reading_more : (v : StatesView) (rests : List (Option ℕ)) (total place k : ℕ) (s : Scene) (read : List Push) (way : Way) → AreAll v →
+    AreRests v.board v.most 0 v.entries rests → IsReading v.board v.entries rests total place read → IsAtPlace v.entries place s k → k < v.most →
+    IsWay v.board v.entries rests k s way → ((m : ℕ) → k + suc m ≡ v.most → IsRestOf v.board (suc m) s (Some way.moves)) →
+    IsReading v.board v.entries rests total way.place (read ++ way.push ∷ [])
 reading_more v rests total place k s read way are is reading here fewer w best =
     let (m, sum) = pushes_left (suc k) v.most (omega (arith, fewer)) in
     let at_all : k + suc m ≡ v.most = omega (arith, sum) in
@@ -161,27 +162,32 @@ reading_more v rests total place k s read way are is reading here fewer w best =
           (finish_more scene w.possible w.walked (subst (λ (t : Scene). Finishes v.board t ps w.rest) w.leads.there finishes))));
     }
   where
-    finish_more : {walk rest : ℕ} {p : Push} {ps : List Push} → IsScene v.board s → CanPush v.board s p → IsWalkLength v.board s (next v.board p.square (opposite p.dir)) walk →
-        Finishes v.board (after_push v.board s p) ps rest → Finishes v.board s (p ∷ ps) (walk + 1 + rest)
+    finish_more : {walk rest : ℕ} {p : Push} {ps : List Push} → IsScene v.board s → CanPush v.board s p →
+        IsWalkLength v.board s (next v.board p.square (opposite p.dir)) walk → Finishes v.board (after_push v.board s p) ps rest →
+        Finishes v.board s (p ∷ ps) (walk + 1 + rest)
     finish_more {p = p} {ps = ps} scene can shortest (ds, t, play, solved, many) =
         let (es, walked, long) = shortest.some in
         let e = length-append es (p.dir ∷ ds) in (
           es ++ p.dir ∷ ds,
           t,
-          play-append walked (subst (λ (q : Push). Play v.board Any (at s (next v.board p.square (opposite p.dir))) (p.dir ∷ ds) (q ∷ ps) t) (pushed_push v.board s p scene can) (push tt (pushed_from v.board s p scene can) play)),
+          play-append walked
+              (subst (λ (q : Push). Play v.board Any (at s (next v.board p.square (opposite p.dir))) (p.dir ∷ ds) (q ∷ ps) t)
+              (pushed_push v.board s p scene can) (push tt (pushed_from v.board s p scene can) play)),
           solved,
           omega (arith, e, long, many),
         )
 
 -- all pushes are read
-pub reading_ended : (v : StatesView) (rests : List (Option ℕ)) (total place k : ℕ) (s : Scene) (read : List Push) → AreAll v → AreRests v.board v.most 0 v.entries rests →
-    IsReading v.board v.entries rests total place read → IsAtPlace v.entries place s k → v.most ≤ k →
+pub reading_ended : (v : StatesView) (rests : List (Option ℕ)) (total place k : ℕ) (s : Scene) (read : List Push) → AreAll v →
+    AreRests v.board v.most 0 v.entries rests → IsReading v.board v.entries rests total place read → IsAtPlace v.entries place s k → v.most ≤ k →
     (length read ≡ v.most) × Finishes v.board (start v.board) read total
 reading_ended v rests total place k s read are is reading (x, at_x, at_s, at_k) enough =
     let few = (are.listed.each place x at_x).few in
     let last : k + 0 ≡ v.most = omega (arith, few, at_k, enough) in
-    let (r, rest, on, many) = rest_here v rests total place k 0 s read is reading (x, at_x, at_s, at_k) last in
-    (omega (arith, many, last), subst (λ (qs : List Push). Finishes v.board (start v.board) qs total) (append-nil read) (on [] (none_left (rest.is.some r refl))))
+    let (r, rest, on, many) = rest_here v rests total place k 0 s read is reading (x, at_x, at_s, at_k) last in (
+      omega (arith, many, last),
+      subst (λ (qs : List Push). Finishes v.board (start v.board) qs total) (append-nil read) (on [] (none_left (rest.is.some r refl))),
+    )
   where
     none_left : {r : ℕ} → EndsSolvedBy v.board 0 s r → Finishes v.board s [] r
     none_left (ds, [], t, play, solved, few, many) = (ds, t, play, solved, many)
@@ -204,9 +210,9 @@ pub played_by : (board : Board) (ps : List Push) (total : ℕ) → Finishes boar
 played_by board ps total (ds, t, play, solved, many) = (ds, t, play)
 
 -- the least play with the pushes that were read is the best solution
-pub best_solution : (v : StatesView) (rests : List (Option ℕ)) (total : ℕ) (ps : List Push) (t : Scene) (moves : List Letter) → AreAll v → AreRests v.board v.most 0 v.entries rests →
-    slice_get rests 0 ≡ Some (Some total) → length ps ≡ v.most → Finishes v.board (start v.board) ps total → WritesLeastPlay v.board ps t moves →
-    IsVerdict v.board moves (Solved v.most (length moves)) × NoneIsBetter v.board v.most (length moves)
+pub best_solution : (v : StatesView) (rests : List (Option ℕ)) (total : ℕ) (ps : List Push) (t : Scene) (moves : List Letter) → AreAll v →
+    AreRests v.board v.most 0 v.entries rests → slice_get rests 0 ≡ Some (Some total) → length ps ≡ v.most → Finishes v.board (start v.board) ps total →
+    WritesLeastPlay v.board ps t moves → IsVerdict v.board moves (Solved v.most (length moves)) × NoneIsBetter v.board v.most (length moves)
 best_solution v rests total ps t moves are is first_is long (ds, u, play, solved, many) writes = (
   (
     record { state = t; leads = record { dirs = writes.dirs; pushes = ps; play = writes.play; written = writes.written }; end = end },

@@ -1,12 +1,11 @@
 -- How states are listed by their pushes, over plain lists.
-use Rattle.std.proofs.Common.{◌≡◌, ℕ, zero, suc, ◌+◌, ◌≤◌, ◌<◌, ◌⊎◌, List, [], ◌∷◌, ◌++◌, map, length, Option, None, Some, option_map, inl, inr, refl, sym, ap, subst}
-use Rattle.std.proofs.Common.{Bool, true, false, IfSome, ◌∙◌, arith, get_or}
-use Rattle.std.proofs.lemmas.Bool.{cases_lt, cases_eq}
+use Rattle.std.proofs.Common.{◌≡◌, ℕ, zero, suc, ◌+◌, ◌≤◌, ◌<◌, ◌⊎◌, List, [], ◌∷◌, ◌++◌, map, length, Option, None, Some, option_map, inl, inr, refl, sym, ap}
+use Rattle.std.proofs.Common.{subst, IfSome, ◌∙◌, arith, get_or}
+use Rattle.std.proofs.lemmas.Bool.{cases_eq}
 use Rattle.std.proofs.lemmas.List.{length-append, length-map}
 use Rattle.std.proofs.lemmas.Option.{none-some, same_Some, slice_get_read, slice_get_within, slice_get-map}
 use Rattle.std.specs.Prelude.{slice_get}
 use Rattle.grid.specs.declared.square.Push.{Push}
-use Rattle.grid.specs.Squares.{Squares}
 use Rattle.grid.specs.Board.{Board, Scene, next, opposite, start}
 use Rattle.grid.specs.Plays.{Play, Any, push, stay}
 use Rattle.grid.specs.Lawful.{box_count}
@@ -20,7 +19,6 @@ use Rattle.prices.specs.Helping.{NeverHelps, SlackView}
 use Rattle.prices.specs.Solving.{Allows, NoneWithin, SolvableWithin}
 use Rattle.prices.proofs.lemmas.Helping.{never_leads_on}
 use Rattle.prices.proofs.lemmas.Solving.{none_is_not_solvable}
-use Rattle.prover.specs.Fewest.{NoneHasFewer}
 use Rattle.prover.specs.Frontier.{IsFound}
 use Rattle.prover.proofs.lemmas.Pruning.{after_scene, pushed_from, pushed_push}
 use Rattle.store.specs.FoundView.{FitsGrid}
@@ -29,22 +27,11 @@ use Rattle.store.specs.declared.visited.Label.{Label}
 use Rattle.store.proofs.lemmas.Fitting.{level_fits}
 use Rattle.successors.specs.Distances.{AreDistinct}
 use Rattle.successors.specs.Expansion.{after_push}
-use Rattle.successors.proofs.lemmas.Lists.{at_before, at_seam}
+use Rattle.successors.proofs.lemmas.Lists.{at-push, at_before, at_seam}
 use Rattle.shortest.specs.Shortest.{HasMoreStates, IsReachedBy}
-use Rattle.shortest.specs.inside.Listing.{AreKept, AreListed, EndsListing, IsAfter, IsAtPlace, IsKept, IsReachedState, IsStateList, KeepsEach, Lists, ListsIf}
+use Rattle.shortest.specs.inside.Listing.{AreKept, AreListed, IsAfter, IsAtPlace, IsKept, IsReachedState, KeepsEach, Lists, ListsIf}
 
 -- ---- lists
-
--- an element of a list with one more was there before, or is the last
-either_at : {A : Type 0} (xs : List A) (y : A) (i : ℕ) (x : A) → slice_get (xs ++ y ∷ []) i ≡ Some x →
-    (slice_get xs i ≡ Some x) ⊎ ((i ≡ length xs) × (x ≡ y))
-either_at [] y zero x e = inr (refl, sym (same_Some y x e))
-either_at [] y (suc i) x e = absurd (let lt = slice_get_within (y ∷ []) (suc i) x e in omega (arith, lt))
-either_at (z ∷ xs) y zero x e = inl e
-either_at (z ∷ xs) y (suc i) x e = elim (either_at xs y i x e) [
-  | inl h ↦ inl h
-  | inr (p, q) ↦ inr (ap suc p, q)
-]
 
 -- a place before the end has an element
 pub in_range : {A : Type 0} (xs : List A) (i : ℕ) → i < length xs → (x : A) × (slice_get xs i ≡ Some x)
@@ -69,8 +56,8 @@ lists_by old new e (Some i) most (inr (x, at_i, same, lt, is)) = absurd (let le 
 lists_by old new e None most (is, (i, x, at_i, same, le)) = inl (is, (i, x, at_i, same, le))
 
 -- the list of the start alone
-pub first_listed : (board : Board) (most : ℕ) (old new : List Entry) (e : Entry) (place : Option ℕ) → old ≡ [] → FitsLevel board e.position → e.position ≡ start board →
-    e.pushes ≡ 0 → HasEntered old new e place → AreListed board most 0 new
+pub first_listed : (board : Board) (most : ℕ) (old new : List Entry) (e : Entry) (place : Option ℕ) → old ≡ [] → FitsLevel board e.position →
+    e.position ≡ start board → e.pushes ≡ 0 → HasEntered old new e place → AreListed board most 0 new
 first_listed board most old new e place none fits first zero_ entered = by (lists_by [] new e place (λ i x at_i. absurd (none-some x at_i))
     (subst (λ (xs : List Entry). HasEntered xs new e place) none entered))
   where
@@ -106,7 +93,8 @@ reached_after board k s p scene can (ds, ps, play, many) =
     let long = length-append ps (p ∷ []) in (
       ds ++ (es ++ p.dir ∷ []),
       ps ++ p ∷ [],
-      play-append play (play-append walked (subst (λ (q : Push). Play board Any (at s (next board p.square (opposite p.dir))) (p.dir ∷ []) (q ∷ []) (after_push board s p))
+      play-append play (play-append walked
+          (subst (λ (q : Push). Play board Any (at s (next board p.square (opposite p.dir))) (p.dir ∷ []) (q ∷ []) (after_push board s p))
           (pushed_push board s p scene can) (push tt (pushed_from board s p scene can) (stay tt)))),
       omega (arith, long, many),
     )
@@ -127,19 +115,22 @@ module _ (board : Board) (most place : ℕ) (old : List Entry) (k : ℕ) (s : Sc
   one_more : (e : Entry) → e.position ≡ after_push board s p → e.pushes ≡ suc k → FitsLevel board e.position → AreListed board most place (old ++ e ∷ [])
   one_more e there count fits = record {
     begun = (let (y, at_y, first, zero_) = listed.begun in (y, at_before old (e ∷ []) 0 y at_y, first, zero_));
-    each = λ i y at_i. elim (either_at old e i y at_i) [
+    each = λ i y at_i. elim (at-push old e i y at_i) [
       | inl before ↦ listed.each i y before
       | inr (end, is) ↦ subst (IsReachedState board most) (sym is) (record {
         fits = fits;
         reached = subst (λ (n : ℕ). IsReachedBy board n e.position) (sym count) (subst (IsReachedBy board (suc k)) (sym there)
-            (reached_after board k s p scene can (subst (λ (n : ℕ). IsReachedBy board n s) at_place.3 (subst (IsReachedBy board at_place.0.pushes) same (listed.each place at_place.0 at_place.1).reached))));
+            (reached_after board k s p scene can
+            (subst (λ (n : ℕ). IsReachedBy board n s) at_place.3
+            (subst (IsReachedBy board at_place.0.pushes) same (listed.each place at_place.0 at_place.1).reached))));
         few = omega (arith, count, fewer);
       })
     ];
-    sorted = λ i j y z le at_i at_j. sorted_on i j y z le (either_at old e i y at_i) (either_at old e j z at_j);
-    near = λ i j y z le at_i at_j. near_on i j y z le (either_at old e i y at_i) (either_at old e j z at_j);
-    expanded = λ i y lt at_i. elim (either_at old e i y at_i) [
-      | inl before ↦ (λ q can_q m sum solvable. found_front old e (suc y.pushes) (after_push board y.position q) (listed.expanded i y lt before q can_q m sum solvable))
+    sorted = λ i j y z le at_i at_j. sorted_on i j y z le (at-push old e i y at_i) (at-push old e j z at_j);
+    near = λ i j y z le at_i at_j. near_on i j y z le (at-push old e i y at_i) (at-push old e j z at_j);
+    expanded = λ i y lt at_i. elim (at-push old e i y at_i) [
+      | inl before ↦ (λ q can_q m sum solvable. found_front old e (suc y.pushes) (after_push board y.position q)
+          (listed.expanded i y lt before q can_q m sum solvable))
       | inr (end, is) ↦ absurd (let in_ = slice_get_within old place at_place.0 at_place.1 in omega (arith, lt, end, in_))
     ];
   }
@@ -157,7 +148,10 @@ module _ (board : Board) (most place : ℕ) (old : List Entry) (k : ℕ) (s : Sc
           (slice_get old j ≡ Some z) ⊎ ((j ≡ length old) × (z ≡ e)) → z.pushes ≤ suc y.pushes
       near_on i j y z le (inl one) (inl two) = listed.near i j y z le one two
       near_on i j y z le (inl one) (inr (end, is)) =
-          let few = listed.sorted place i at_place.0 y le at_place.1 one in let c = ap (λ (w : Entry). w.pushes) is in let d = at_place.3 in omega (arith, few, c, count, d)
+          let few = listed.sorted place i at_place.0 y le at_place.1 one in
+          let c = ap (λ (w : Entry). w.pushes) is in
+          let d = at_place.3 in
+          omega (arith, few, c, count, d)
       near_on i j y z le (inr (end, is)) (inl two) =
           let few = most_so_far j z two in let c = ap (λ (w : Entry). w.pushes) is in omega (arith, few, c, count)
       near_on i j y z le (inr (end, is)) (inr (last, so)) =
@@ -179,8 +173,8 @@ module _ (board : Board) (most place : ℕ) (old : List Entry) (k : ℕ) (s : Sc
       )
 
   -- after one more push of the state at the place
-  pub pushed_on : (new : List Entry) (left n : ℕ) (after : Option Scene) (pushes : List Push) (i : ℕ) → k + suc left ≡ most → n ≡ suc k → slice_get pushes i ≡ Some p →
-      IsAfter board left s p after → ListsIf old new n after → AreKept board most old k s pushes i →
+  pub pushed_on : (new : List Entry) (left n : ℕ) (after : Option Scene) (pushes : List Push) (i : ℕ) → k + suc left ≡ most → n ≡ suc k →
+      slice_get pushes i ≡ Some p → IsAfter board left s p after → ListsIf old new n after → AreKept board most old k s pushes i →
       AreListed board most place new × IsAtPlace new place s k × AreKept board most new k s pushes (i + 1)
   pushed_on new left n None pushes i sum count at_i after lists kept =
       subst (λ (all : List Entry). AreListed board most place all × IsAtPlace all place s k × AreKept board most all k s pushes (i + 1)) (sym lists) (
@@ -188,7 +182,8 @@ module _ (board : Board) (most place : ℕ) (old : List Entry) (k : ℕ) (s : Sc
         at_place,
         λ j q lt at_j. elim (cases_eq j i) [
           | inl e ↦ subst (IsKept board most old k s) (same_Some p q (sym at_i ∙ (ap (λ (h : ℕ). slice_get pushes h) (sym e) ∙ at_j)))
-              (λ m total solvable. absurd (after (subst (λ (h : ℕ). SolvableWithin board h (after_push board s p)) (let g : m ≡ left = omega (arith, total, sum) in g) solvable)))
+              (λ m total solvable. absurd (after (subst (λ (h : ℕ). SolvableWithin board h (after_push board s p))
+              (let g : m ≡ left = omega (arith, total, sum) in g) solvable)))
           | inr ne ↦ kept j q (omega (arith, lt, ne)) at_j
         ],
       )
@@ -209,7 +204,8 @@ module _ (board : Board) (most place : ℕ) (old : List Entry) (k : ℕ) (s : Sc
 
 -- all its pushes are kept
 pub expanded_on : (board : Board) (most place : ℕ) (all : List Entry) (k : ℕ) (s : Scene) (pushes : List Push) (count : ℕ) → ArePushes board s pushes →
-    length pushes ≤ count → AreListed board most place all → IsAtPlace all place s k → AreKept board most all k s pushes count → AreListed board most (suc place) all
+    length pushes ≤ count → AreListed board most place all → IsAtPlace all place s k → AreKept board most all k s pushes count →
+    AreListed board most (suc place) all
 expanded_on board most place all k s pushes count are over listed (x, at_x, same, many) kept = record {
   begun = listed.begun;
   each = listed.each;
@@ -230,8 +226,8 @@ expanded_on board most place all k s pushes count are over listed (x, at_x, same
         (subst (λ (n : ℕ). IsKept board most all n s p) (sym many) (kept_here p (subst (λ (t : Scene). CanPush board t p) same can)))
 
 -- it has as many pushes as the solutions
-pub expanded_last : (board : Board) (most place : ℕ) (all : List Entry) (k : ℕ) (s : Scene) → most ≤ k → AreListed board most place all → IsAtPlace all place s k →
-    AreListed board most (suc place) all
+pub expanded_last : (board : Board) (most place : ℕ) (all : List Entry) (k : ℕ) (s : Scene) → most ≤ k → AreListed board most place all →
+    IsAtPlace all place s k → AreListed board most (suc place) all
 expanded_last board most place all k s enough listed (x, at_x, same, many) = record {
   begun = listed.begun;
   each = listed.each;
@@ -245,7 +241,8 @@ expanded_last board most place all k s enough listed (x, at_x, same, many) = rec
 }
 
 -- all are expanded
-pub all_expanded : (board : Board) (most place : ℕ) (all : List Entry) → length all ≤ place → AreListed board most place all → AreListed board most (length all) all
+pub all_expanded : (board : Board) (most place : ℕ) (all : List Entry) → length all ≤ place → AreListed board most place all →
+    AreListed board most (length all) all
 all_expanded board most place all over listed = record {
   begun = listed.begun;
   each = listed.each;
@@ -255,8 +252,8 @@ all_expanded board most place all over listed = record {
 }
 
 -- more states are listed than the limit
-pub has_more_states : (board : Board) (most limit done : ℕ) (all : List Entry) → AreListed board most done all → AreDistinct (map (λ (x : Entry). x.position) all) →
-    limit < length all → HasMoreStates board most limit
+pub has_more_states : (board : Board) (most limit done : ℕ) (all : List Entry) → AreListed board most done all →
+    AreDistinct (map (λ (x : Entry). x.position) all) → limit < length all → HasMoreStates board most limit
 has_more_states board most limit done all listed distinct more = record {
   states = map (λ (x : Entry). x.position) all;
   many = (let e = length-map all (λ (x : Entry). x.position) in omega (arith, e, more));
@@ -264,18 +261,24 @@ has_more_states board most limit done all listed distinct more = record {
   reached = λ i s at_i. by i (slice_get all i) refl s (sym (slice_get-map (λ (x : Entry). x.position) all i) ∙ at_i);
 }
   where
-    by : (i : ℕ) (o : Option Entry) → slice_get all i ≡ o → (s : Scene) → option_map (λ (x : Entry). x.position) o ≡ Some s → (k : ℕ) × (k ≤ most) × IsReachedBy board k s
+    by : (i : ℕ) (o : Option Entry) → slice_get all i ≡ o → (s : Scene) → option_map (λ (x : Entry). x.position) o ≡ Some s →
+        (k : ℕ) × (k ≤ most) × IsReachedBy board k s
     by i None is s there = absurd (none-some s there)
-    by i (Some x) is s there = (x.pushes, (listed.each i x is).few, subst (IsReachedBy board x.pushes) (same_Some x.position s there) (listed.each i x is).reached)
+    by i (Some x) is s there = (
+      x.pushes,
+      (listed.each i x is).few,
+      subst (IsReachedBy board x.pushes) (same_Some x.position s there) (listed.each i x is).reached,
+    )
 
 -- ---- what the prunings say
 
 -- a push that never helps with the pushes that are left
-pub never_on : (board : Board) (left : ℕ) (v : SlackView) (s : Scene) (p : Push) → (v.board ≡ board) × (v.scene ≡ s) × (v.left ≡ Some left) → IsScene board s → CanPush board s p →
-    ((m : ℕ) → Allows v.left m → NeverHelps v.board (suc m) v.scene p.square p.dir) → ¬ (SolvableWithin board left (after_push board s p))
+pub never_on : (board : Board) (left : ℕ) (v : SlackView) (s : Scene) (p : Push) → (v.board ≡ board) × (v.scene ≡ s) × (v.left ≡ Some left) → IsScene board s →
+    CanPush board s p → ((m : ℕ) → Allows v.left m → NeverHelps v.board (suc m) v.scene p.square p.dir) → ¬ (SolvableWithin board left (after_push board s p))
 never_on board left v s p same scene can never =
     let helps : NeverHelps board (suc left) s p.square p.dir = subst (λ (b : Board). NeverHelps b (suc left) s p.square p.dir) same.0
-    (subst (λ (x : Scene). NeverHelps v.board (suc left) x p.square p.dir) same.1 (never left (subst (λ (o : Option ℕ). Allows o left) (sym same.2) (omega arith)))) in
+    (subst (λ (x : Scene). NeverHelps v.board (suc left) x p.square p.dir) same.1
+    (never left (subst (λ (o : Option ℕ). Allows o left) (sym same.2) (omega arith)))) in
     (none_is_not_solvable board left (after_push board s p)).0
     (never_leads_on board left s (after_push board s p) p scene helps (record { there = can.there; behind = can.behind; ahead = can.ahead; after = refl }))
 
@@ -288,7 +291,8 @@ pub none_on : (board : Board) (left : ℕ) (t u : Scene) → t ≡ u → NoneWit
 none_on board left t u same none = (none_is_not_solvable board left u).0 (subst (NoneWithin board left) same none)
 
 -- the normal form with its player where the box was is the state after the push
-pub exact : (board : Board) (s n : Scene) (p : Push) → IsNorm board (after_push board s p) n → record { boxes = n.boxes; player = p.square } ≡ after_push board s p
+pub exact : (board : Board) (s n : Scene) (p : Push) → IsNorm board (after_push board s p) n →
+    record { boxes = n.boxes; player = p.square } ≡ after_push board s p
 exact board s n p norm = same_scene norm.boxes refl
 
 pub exact_fits : (board : Board) (s n : Scene) (p : Push) → IsScene board s → CanPush board s p → IsNorm board (after_push board s p) n → FitsLevel board n →
@@ -300,24 +304,28 @@ exact_fits board s n p scene can norm fits = record {
 
 -- ---- what calls ask for
 
-pub fits_at : (board : Board) (most done place k : ℕ) (all : List Entry) (s : Scene) → AreListed board most done all → IsAtPlace all place s k → FitsLevel board s
+pub fits_at : (board : Board) (most done place k : ℕ) (all : List Entry) (s : Scene) → AreListed board most done all → IsAtPlace all place s k →
+    FitsLevel board s
 fits_at board most done place k all s listed (x, at_x, same, count) = subst (FitsLevel board) same (listed.each place x at_x).fits
 
 -- the state after a push fits the grid
-pub after_fits : (board : Board) (left boxes squares : ℕ) (s : Scene) (p : Push) (after : Option Scene) → boxes ≡ box_count board → squares ≡ length board.cells →
-    IsAfter board left s p after → IfSome after (λ t. FitsGrid boxes squares t)
+pub after_fits : (board : Board) (left boxes squares : ℕ) (s : Scene) (p : Push) (after : Option Scene) → boxes ≡ box_count board →
+    squares ≡ length board.cells → IsAfter board left s p after → IfSome after (λ t. FitsGrid boxes squares t)
 after_fits board left boxes squares s p None boxes_are squares_are is = tt
 after_fits board left boxes squares s p (Some t) boxes_are squares_are (same, fits) = level_fits board boxes squares t boxes_are squares_are fits
 
 -- a state, or none, is listed
-pub lists_some : (old new : List Entry) (s : Scene) (pushes : ℕ) (label : Label) (place : Option ℕ) → ((i : ℕ) (x : Entry) → slice_get old i ≡ Some x → x.pushes ≤ pushes) →
-    label ≡ record { pushes = pushes; least = None; parent = None } → HasEntered old new (entry_of (s, label)) place → ListsIf old new pushes (Some s)
+pub lists_some : (old new : List Entry) (s : Scene) (pushes : ℕ) (label : Label) (place : Option ℕ) →
+    ((i : ℕ) (x : Entry) → slice_get old i ≡ Some x → x.pushes ≤ pushes) → label ≡ record { pushes = pushes; least = None; parent = None } →
+    HasEntered old new (entry_of (s, label)) place → ListsIf old new pushes (Some s)
 lists_some old new s pushes label place most is entered = lists_by old new (record { position = s; pushes = pushes; least = None; parent = None }) place most
     (subst (λ (l : Label). HasEntered old new (entry_of (s, l)) place) is entered)
 
 -- the start is listed
-pub start_listed : (board : Board) (most : ℕ) (old new : List Entry) (s : Scene) (label : Label) (place : Option ℕ) → old ≡ [] → s ≡ start board → FitsLevel board (start board) →
-    label ≡ record { pushes = 0; least = None; parent = None } → HasEntered old new (entry_of (s, label)) place → AreListed board most 0 new
+pub start_listed : (board : Board) (most : ℕ) (old new : List Entry) (s : Scene) (label : Label) (place : Option ℕ) → old ≡ [] → s ≡ start board →
+    FitsLevel board (start board) → label ≡ record { pushes = 0; least = None; parent = None } → HasEntered old new (entry_of (s, label)) place →
+    AreListed board most 0 new
 start_listed board most old new s label place none first fits is entered =
-    first_listed board most old new (record { position = s; pushes = 0; least = None; parent = None }) place none (subst (FitsLevel board) (sym first) fits) first refl
+    first_listed board most old new (record { position = s; pushes = 0; least = None; parent = None }) place none
+    (subst (FitsLevel board) (sym first) fits) first refl
     (subst (λ (l : Label). HasEntered old new (entry_of (s, l)) place) is entered)

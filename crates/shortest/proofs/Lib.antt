@@ -1,3 +1,4 @@
+pub mod lemmas
 pub mod Rounds
 pub mod Layering
 pub mod Onward

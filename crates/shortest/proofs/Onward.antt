@@ -8,7 +8,7 @@ use Rattle.std.specs.Prelude.{slice_get}
 use Rattle.grid.specs.declared.dir.Dir.{Dir}
 use Rattle.grid.specs.declared.square.Push.{Push}
 use Rattle.grid.specs.Squares.{insert, remove}
-use Rattle.grid.specs.Board.{Board, Scene, IsSolved, next, opposite, start}
+use Rattle.grid.specs.Board.{Board, Scene, IsSolved, next, opposite}
 use Rattle.grid.specs.Plays.{Play, Any, push, push_at, stay}
 use Rattle.grid.specs.States.{IsScene, FitsLevel}
 use Rattle.grid.proofs.lemmas.Plays.{CutPush, cut_first_push, play-append, play_fits, play_scene, push_from, walk_keeps_boxes}
@@ -23,8 +23,9 @@ use Rattle.prover.proofs.lemmas.Pruning.{moved, pushed_from, pushed_push}
 use Rattle.store.specs.Places.{IsPlaceOf}
 use Rattle.store.specs.Visited.{Entry, IsNew}
 use Rattle.successors.specs.Expansion.{after_push}
+use Rattle.successors.proofs.lemmas.Lists.{set_here, set_there}
 use Rattle.shortest.specs.Shortest.{IsReachedBy}
-use Rattle.shortest.specs.inside.Resting.{EndsSolvedBy, IsAtMost, IsRest}
+use Rattle.shortest.specs.inside.Resting.{EndsSolvedBy, IsAtMost}
 use Rattle.shortest.specs.inside.Listing.{AreAll, IsAtPlace, IsKept, IsReachedState, StatesView}
 use Rattle.shortest.specs.inside.Resting.{AreLeastBy, AreRests, IsLeastBy, IsOnward, IsRestOf, IsWay, LeadsOn, moves_of}
 use Rattle.shortest.specs.inside.Walking.{IsWalkLength}
@@ -62,13 +63,17 @@ module _ (v : StatesView) (rests : List (Option ℕ)) (k : ℕ) (s : Scene) (are
   onward_fits = subst (FitsLevel v.board) same listed.fits
 
   kept : (p : Push) → CanPush v.board s p → IsKept v.board v.most v.entries k s p
-  kept p can = subst (λ (t : Scene). IsKept v.board v.most v.entries k t p) same (subst (λ (n : ℕ). IsKept v.board v.most v.entries n onward.at_place.0.position p) onward.at_place.3
-      (are.listed.expanded onward.place onward.at_place.0 (slice_get_within v.entries onward.place onward.at_place.0 onward.at_place.1) onward.at_place.1 p (subst (λ (t : Scene). CanPush v.board t p) (sym same) can)))
+  kept p can = subst (λ (t : Scene). IsKept v.board v.most v.entries k t p) same
+      (subst (λ (n : ℕ). IsKept v.board v.most v.entries n onward.at_place.0.position p) onward.at_place.3
+      (are.listed.expanded onward.place onward.at_place.0 (slice_get_within v.entries onward.place onward.at_place.0 onward.at_place.1)
+      onward.at_place.1 p (subst (λ (t : Scene). CanPush v.board t p) (sym same) can)))
 
   -- it is unsolved
   unsolved_here : SolvableWithin v.board 0 s → ⊥
   unsolved_here solvable =
-      let le = one_layer v.board v.most k 0 s are.fewest (subst (λ (n : ℕ). IsReachedBy v.board n s) onward.at_place.3 (subst (IsReachedBy v.board onward.at_place.0.pushes) same listed.reached)) solvable in
+      let le = one_layer v.board v.most k 0 s are.fewest
+      (subst (λ (n : ℕ). IsReachedBy v.board n s) onward.at_place.3
+      (subst (IsReachedBy v.board onward.at_place.0.pushes) same listed.reached)) solvable in
       let lt = onward.fewer in
       omega (arith, le, lt)
 
@@ -76,7 +81,9 @@ module _ (v : StatesView) (rests : List (Option ℕ)) (k : ℕ) (s : Scene) (are
   pub behind : (i : ℕ) (y : Entry) → slice_get v.entries i ≡ Some y → y.pushes ≡ suc k → suc onward.place ≤ i
   behind i y at_i count = elim (cases_lt onward.place i) [
     | inl lt ↦ omega (arith, lt)
-    | inr ge ↦ absurd (let le = are.listed.sorted i onward.place y onward.at_place.0 ge at_i onward.at_place.1 in let c = onward.at_place.3 in omega (arith, le, c, count))
+    | inr ge ↦ absurd (let le = are.listed.sorted i onward.place y onward.at_place.0 ge at_i onward.at_place.1 in
+        let c = onward.at_place.3 in
+        omega (arith, le, c, count))
   ]
 
   pub rest_there : (p : Push) (place rest m : ℕ) → k + suc m ≡ v.most → (leads : LeadsOn v.board v.entries rests k s p place rest) →
@@ -97,7 +104,8 @@ module _ (v : StatesView) (rests : List (Option ℕ)) (k : ℕ) (s : Scene) (are
       let (i, z, at_z, so, le) = kept p can m sum solvable in
       let one : z ≡ y = distinct_places v.entries i place z y are.distinct at_z at_y (so ∙ sym there) in
       let c = ap (λ (w : Entry). w.pushes) one in
-      let ge = one_layer v.board v.most y.pushes m y.position are.fewest (are.listed.each place y at_y).reached (subst (SolvableWithin v.board m) (sym there) solvable) in
+      let ge = one_layer v.board v.most y.pushes m y.position are.fewest (are.listed.each place y at_y).reached
+      (subst (SolvableWithin v.board m) (sym there) solvable) in
       other (omega (arith, c, le, ge, sum))
 
   -- no play goes on from it
@@ -118,7 +126,8 @@ pub record IsCut (board : Board) (s : Scene) (ds : List Dir) (p : Push) (ps : Li
   pub can : CanPush board s p
   pub rest : Play board Any (after_push board s p) late ps t
 
-pub cut_here : (board : Board) (s : Scene) (ds : List Dir) (p : Push) (ps : List Push) (t : Scene) → IsScene board s → Play board Any s ds (p ∷ ps) t → IsCut board s ds p ps t
+pub cut_here : (board : Board) (s : Scene) (ds : List Dir) (p : Push) (ps : List Push) (t : Scene) → IsScene board s → Play board Any s ds (p ∷ ps) t →
+    IsCut board s ds p ps t
 cut_here board s ds p ps t scene play = by (cut_first_push p ps play)
   where
     by : CutPush board Any s ds [] p ps t → IsCut board s ds p ps t
@@ -137,18 +146,21 @@ cut_here board s ds p ps t scene play = by (cut_first_push p ps play)
           long = omega (arith, e, w);
           walked = subst (λ (u : Scene). Play board Any s c.early [] u) there c.first;
           can = subst (CanPush board s) (sym c.named) (push_possible board s c.before c.after c.early p.dir scene c.first c.pushed);
-          rest = subst (λ (u : Scene). Play board Any u c.late ps t) (moved board s c.before c.after p.dir boxes c.pushed ∙ ap (after_push board s) (sym c.named)) c.rest;
+          rest = subst (λ (u : Scene). Play board Any u c.late ps t)
+              (moved board s c.before c.after p.dir boxes c.pushed ∙ ap (after_push board s) (sym c.named)) c.rest;
         }
 
 -- no play goes on from the state after the push
-pub least_none : (board : Board) (m : ℕ) (s : Scene) (p : Push) → IsScene board s → ¬ (SolvableWithin board m (after_push board s p)) → IsLeastBy board m s p None
+pub least_none : (board : Board) (m : ℕ) (s : Scene) (p : Push) → IsScene board s → ¬ (SolvableWithin board m (after_push board s p)) →
+    IsLeastBy board m s p None
 least_none board m s p scene none ds ps t play solved few =
     let c = cut_here board s ds p ps t scene play in
     none (c.late, ps, t, c.rest, solved, few)
 
 -- a shortest walk, the push, and the fewest moves after it
-pub least_some : (board : Board) (m : ℕ) (s : Scene) (p : Push) (walk rest moves : ℕ) → IsScene board s → IsWalkLength board s (next board p.square (opposite p.dir)) walk →
-    IsRestOf board m (after_push board s p) (Some rest) → moves ≡ walk + 1 + rest → IsLeastBy board m s p (Some moves)
+pub least_some : (board : Board) (m : ℕ) (s : Scene) (p : Push) (walk rest moves : ℕ) → IsScene board s →
+    IsWalkLength board s (next board p.square (opposite p.dir)) walk → IsRestOf board m (after_push board s p) (Some rest) → moves ≡ walk + 1 + rest →
+    IsLeastBy board m s p (Some moves)
 least_some board m s p walk rest moves scene shortest rests is ds ps t play solved few =
     let c = cut_here board s ds p ps t scene play in
     let one = shortest.least c.early c.walked in
@@ -159,13 +171,13 @@ least_some board m s p walk rest moves scene shortest rests is ds ps t play solv
 -- ---- the best way
 
 -- a bound that holds for each number holds for the lesser one
-pub least_by_less : (board : Board) (m : ℕ) (s : Scene) (p : Push) (one two : Option ℕ) → ((n : ℕ) → IsAtMost one n → IsAtMost two n) → IsLeastBy board m s p one →
-    IsLeastBy board m s p two
+pub least_by_less : (board : Board) (m : ℕ) (s : Scene) (p : Push) (one two : Option ℕ) → ((n : ℕ) → IsAtMost one n → IsAtMost two n) →
+    IsLeastBy board m s p one → IsLeastBy board m s p two
 least_by_less board m s p one two so least ds ps t play solved few = so (length ds) (least ds ps t play solved few)
 
 pub least_more : (board : Board) (m : ℕ) (s : Scene) (pushes : List Push) (i : ℕ) (p : Push) (old here new : Option ℕ) → slice_get pushes i ≡ Some p →
-    ((n : ℕ) → IsAtMost old n → IsAtMost new n) → ((n : ℕ) → IsAtMost here n → IsAtMost new n) → AreLeastBy board m s pushes i old → IsLeastBy board m s p here →
-    AreLeastBy board m s pushes (i + 1) new
+    ((n : ℕ) → IsAtMost old n → IsAtMost new n) → ((n : ℕ) → IsAtMost here n → IsAtMost new n) → AreLeastBy board m s pushes i old →
+    IsLeastBy board m s p here → AreLeastBy board m s pushes (i + 1) new
 least_more board m s pushes i p old here new at_i one two before now j q lt at_j = elim (cases_lt j i) [
   | inl less ↦ least_by_less board m s q old new one (before j q less at_j)
   | inr ge ↦
@@ -176,23 +188,27 @@ least_more board m s pushes i p old here new at_i one two before now j q lt at_j
 
 -- the play that a way begins
 pub play_of : (board : Board) (m : ℕ) (s : Scene) (p : Push) (walk rest : ℕ) → IsScene board s → CanPush board s p →
-    IsWalkLength board s (next board p.square (opposite p.dir)) walk → EndsSolvedBy board m (after_push board s p) rest → EndsSolvedBy board (suc m) s (walk + 1 + rest)
+    IsWalkLength board s (next board p.square (opposite p.dir)) walk → EndsSolvedBy board m (after_push board s p) rest →
+    EndsSolvedBy board (suc m) s (walk + 1 + rest)
 play_of board m s p walk rest scene can shortest (ds, ps, t, play, solved, few, many) =
     let (es, walked, long) = shortest.some in
     let e = length-append es (p.dir ∷ ds) in (
       es ++ p.dir ∷ ds,
       p ∷ ps,
       t,
-      play-append walked (subst (λ (q : Push). Play board Any (at s (next board p.square (opposite p.dir))) (p.dir ∷ ds) (q ∷ ps) t) (pushed_push board s p scene can) (push tt (pushed_from board s p scene can) play)),
+      play-append walked
+          (subst (λ (q : Push). Play board Any (at s (next board p.square (opposite p.dir))) (p.dir ∷ ds) (q ∷ ps) t)
+          (pushed_push board s p scene can) (push tt (pushed_from board s p scene can) play)),
       solved,
       omega (arith, few),
       omega (arith, e, long, many),
     )
 
 -- the best of all ways is the fewest moves from the state
-pub best_is : (v : StatesView) (rests : List (Option ℕ)) (k m : ℕ) (s : Scene) (pushes : List Push) (count : ℕ) (best : Option Way) → (are : AreAll v) → (onward : IsOnward v rests k s) →
-    k + suc m ≡ v.most → ArePushes v.board s pushes → length pushes ≤ count → ((way : Way) → best ≡ Some way → IsWay v.board v.entries rests k s way) →
-    AreLeastBy v.board m s pushes count (moves_of best) → IsRestOf v.board (suc m) s (moves_of best)
+pub best_is : (v : StatesView) (rests : List (Option ℕ)) (k m : ℕ) (s : Scene) (pushes : List Push) (count : ℕ) (best : Option Way) → (are : AreAll v) →
+    (onward : IsOnward v rests k s) → k + suc m ≡ v.most → ArePushes v.board s pushes → length pushes ≤ count →
+    ((way : Way) → best ≡ Some way → IsWay v.board v.entries rests k s way) → AreLeastBy v.board m s pushes count (moves_of best) →
+    IsRestOf v.board (suc m) s (moves_of best)
 best_is v rests k m s pushes count best are onward sum all over ways least = record {
   is = record {
     some = λ n e. some best ways n e;
@@ -204,7 +220,8 @@ best_is v rests k m s pushes count best are onward sum all over ways least = rec
     scene : IsScene v.board s
     scene = (onward_fits v rests k s are onward).scene
 
-    some : (o : Option Way) → ((way : Way) → o ≡ Some way → IsWay v.board v.entries rests k s way) → (n : ℕ) → moves_of o ≡ Some n → EndsSolvedBy v.board (suc m) s n
+    some : (o : Option Way) → ((way : Way) → o ≡ Some way → IsWay v.board v.entries rests k s way) → (n : ℕ) → moves_of o ≡ Some n →
+        EndsSolvedBy v.board (suc m) s n
     some None is n e = absurd (none-some n e)
     some (Some way) is n e =
         let w = is way refl in
@@ -222,7 +239,8 @@ best_is v rests k m s pushes count best are onward sum all over ways least = rec
         let same = same_Some way.moves n e in
         omega (arith, low, short, moves, same)
 
-    no_less : (ds : List Dir) (ps : List Push) (t : Scene) → Play v.board Any s ds ps t → IsSolved v.board t → length ps ≤ suc m → IsAtMost (moves_of best) (length ds)
+    no_less : (ds : List Dir) (ps : List Push) (t : Scene) → Play v.board Any s ds ps t → IsSolved v.board t → length ps ≤ suc m →
+        IsAtMost (moves_of best) (length ds)
     no_less ds [] t play solved few = absurd (unsolved_here v rests k s are onward (ds, [], t, play, solved, omega arith))
     no_less ds (p ∷ ps) t play solved few =
         let c = cut_here v.board s ds p ps t scene play in
@@ -269,32 +287,24 @@ rest_same board all most place k n s t rest here there is m sum =
 
 -- ---- the numbers are written
 
-set_here : {A : Type 0} (xs : List A) (i : ℕ) (y : A) → i < length xs → slice_get (set xs i y) i ≡ Some y
-set_here [] i y lt = absurd (omega (arith, lt))
-set_here (z ∷ xs) zero y lt = refl
-set_here (z ∷ xs) (suc i) y lt = set_here xs i y (omega (arith, lt))
-
-set_there : {A : Type 0} (xs : List A) (i j : ℕ) (y : A) → j ≢ i → slice_get (set xs i y) j ≡ slice_get xs j
-set_there [] i j y ne = refl
-set_there (z ∷ xs) zero zero y ne = absurd (ne refl)
-set_there (z ∷ xs) zero (suc j) y ne = refl
-set_there (z ∷ xs) (suc i) zero y ne = refl
-set_there (z ∷ xs) (suc i) (suc j) y ne = set_there xs i j y (λ e. ne (ap suc e))
-
 -- one more place is written
-pub rests_more : (board : Board) (most place : ℕ) (all : List Entry) (old : List (Option ℕ)) (rest : Option ℕ) → place < length all → AreRests board most (suc place) all old →
-    ((k m : ℕ) (s : Scene) → IsAtPlace all place s k → k + m ≡ most → IsRestOf board m s rest) → AreRests board most place all (set old place rest)
+pub rests_more : (board : Board) (most place : ℕ) (all : List Entry) (old : List (Option ℕ)) (rest : Option ℕ) → place < length all →
+    AreRests board most (suc place) all old → ((k m : ℕ) (s : Scene) → IsAtPlace all place s k → k + m ≡ most → IsRestOf board m s rest) →
+    AreRests board most place all (set old place rest)
 rests_more board most place all old rest lt rests is = record {
   many = length-set old place rest ∙ rests.many;
   each = λ i m x r le at_x at_r sum. elim (cases_eq i place) [
-    | inl e ↦ (let here : rest ≡ r = same_Some rest r (sym (set_here old place rest (let c = rests.many in omega (arith, lt, c))) ∙ (ap (λ (h : ℕ). slice_get (set old place rest) h) (sym e) ∙ at_r)) in
+    | inl e ↦ (let here : rest ≡ r = same_Some rest r
+        (sym (set_here old place rest (let c = rests.many in omega (arith, lt, c))) ∙
+        (ap (λ (h : ℕ). slice_get (set old place rest) h) (sym e) ∙ at_r)) in
         subst (IsRestOf board m x.position) here (is x.pushes m x.position (x, ap (λ (h : ℕ). slice_get all h) (sym e) ∙ at_x, refl, refl) sum))
     | inr ne ↦ rests.each i m x r (omega (arith, le, ne)) at_x (sym (set_there old place i rest ne) ∙ at_r) sum
   ];
 }
 
 -- none is written yet
-pub rests_none : (board : Board) (most place : ℕ) (all : List Entry) (rests : List (Option ℕ)) → length rests ≡ length all → length all ≤ place → AreRests board most place all rests
+pub rests_none : (board : Board) (most place : ℕ) (all : List Entry) (rests : List (Option ℕ)) → length rests ≡ length all → length all ≤ place →
+    AreRests board most place all rests
 rests_none board most place all rests many over = record {
   many = many;
   each = λ i m x r le at_x at_r sum. absurd (let lt = slice_get_within all i x at_x in omega (arith, lt, le, over));
@@ -309,7 +319,8 @@ box_inside board s p scene can = inside_grid board p.square (scene.boxes p.squar
 -- the state after a push fits the level
 pub after_push_fits : (board : Board) (s : Scene) (p : Push) → FitsLevel board s → CanPush board s p → FitsLevel board (after_push board s p)
 after_push_fits board s p fits can =
-    let pushed : Play board Any (at s (next board p.square (opposite p.dir))) (p.dir ∷ []) (push_at board (at s (next board p.square (opposite p.dir))) p.dir ∷ []) (after_push board s p) =
+    let pushed : Play board Any (at s (next board p.square (opposite p.dir))) (p.dir ∷ [])
+    (push_at board (at s (next board p.square (opposite p.dir))) p.dir ∷ []) (after_push board s p) =
     push tt (pushed_from board s p fits.scene can) (stay tt) in
     play_fits (play_fits fits can.behind.1) pushed
 
@@ -330,7 +341,8 @@ pub rest_onward : (board : Board) (most k : ℕ) (s : Scene) (rest : Option ℕ)
 rest_onward board most k s rest fewer is zero sum = absurd (omega (arith, fewer, sum))
 rest_onward board most k s rest fewer is (suc m) sum = is m sum
 
-pub rest_last : (board : Board) (most k : ℕ) (s : Scene) (rest : Option ℕ) → most ≤ k → IsRestOf board 0 s rest → (m : ℕ) → k + m ≡ most → IsRestOf board m s rest
+pub rest_last : (board : Board) (most k : ℕ) (s : Scene) (rest : Option ℕ) → most ≤ k → IsRestOf board 0 s rest → (m : ℕ) → k + m ≡ most →
+    IsRestOf board m s rest
 rest_last board most k s rest enough is zero sum = is
 rest_last board most k s rest enough is (suc m) sum = absurd (omega (arith, enough, sum))
 
@@ -354,9 +366,10 @@ left (suc k) zero le = absurd (omega (arith, le))
 left (suc k) (suc most) le = let (m, sum) = left k most (omega (arith, le)) in (m, omega (arith, sum))
 
 -- the moves after a push fit 64 bits, with a walk and the push
-pub rest_small : (v : StatesView) (rests : List (Option ℕ)) (k : ℕ) (s : Scene) → (are : AreAll v) → (onward : IsOnward v rests k s) → (p : Push) (place rest : ℕ) →
-    LeadsOn v.board v.entries rests k s p place rest → rest + 8589934592 ≤ 18446744073709551616
-rest_small v rests k s are onward p place rest leads = by v.most are.range onward.fewer (λ m sum. (rest_there v rests k s are onward p place rest m sum leads).small rest refl)
+pub rest_small : (v : StatesView) (rests : List (Option ℕ)) (k : ℕ) (s : Scene) → (are : AreAll v) → (onward : IsOnward v rests k s) →
+    (p : Push) (place rest : ℕ) → LeadsOn v.board v.entries rests k s p place rest → rest + 8589934592 ≤ 18446744073709551616
+rest_small v rests k s are onward p place rest leads =
+    by v.most are.range onward.fewer (λ m sum. (rest_there v rests k s are onward p place rest m sum leads).small rest refl)
   where
     by : (most : ℕ) → most < 4294967296 → k < most → ((m : ℕ) → k + suc m ≡ most → rest ≤ m * 4294967296) → rest + 8589934592 ≤ 18446744073709551616
     by zero range fewer is = absurd (omega (arith, fewer))

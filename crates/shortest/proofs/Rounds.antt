@@ -1,8 +1,8 @@
 -- Rounds that reach squares ever farther from the player.
 use Rattle.std.proofs.Common.{◌≡◌, ◌≢◌, ℕ, zero, suc, ◌+◌, ◌<◌, ◌≤◌, ◌⊎◌, Bool, true, false, ◌||◌, cond, eqb, inl, inr, List, [], ◌∷◌, ◌++◌, length}
 use Rattle.std.proofs.Common.{replicate, get_or, set, refl, sym, ap, subst, ◌∙◌, arith}
-use Rattle.std.proofs.lemmas.Bool.{cases_eq, cases_lt, false≢true, true≢false, eqb-true, eqb-false, eq-eqb}
-use Rattle.std.proofs.lemmas.List.{get_or_past, get_or-set_same, get_or-set_other, get_or-replicate, length-set, length-append, length-replicate}
+use Rattle.std.proofs.lemmas.Bool.{cases_eq, false≢true, true≢false, eqb-true, eq-eqb}
+use Rattle.std.proofs.lemmas.List.{get_or-set_same, get_or-set_other, get_or-replicate, length-set, length-append}
 use Rattle.grid.specs.declared.dir.Dir.{Dir}
 use Rattle.grid.specs.declared.limits.TheConstants.{MAX_SQUARES}
 use Rattle.grid.specs.Squares.{Squares}
@@ -15,7 +15,7 @@ use Rattle.grid.proofs.lemmas.Steps.{inside_grid, walk_boxes, walk_player}
 use Rattle.area.specs.Area.{Area, at}
 use Rattle.area.specs.LeastWalks.{IsWalk}
 use Rattle.shortest.specs.declared.walks.TheConstants.{UNREACHED}
-use Rattle.shortest.specs.inside.Walking.{AreLengths, AreWalkLengths, IsInRound, IsLook, IsNear, IsRound, IsWalkLength, unreached}
+use Rattle.shortest.specs.inside.Walking.{AreWalkLengths, IsInRound, IsLook, IsNear, IsRound, unreached}
 
 -- ---- how many squares are not reached
 
@@ -55,9 +55,11 @@ round_begun board s old marks scene room small all is = subst (IsRound board s 0
     room = length-set old s.player 0 ∙ room;
     small = (let e = length-set old s.player 0 in omega (arith, e, room, small));
     start = get_or-set_same old s.player 0 0 inside;
-    sound = λ q lt reached. (let e = here q lt reached in subst (λ (p : ℕ). (ds : List Dir) × IsWalk board s ds p × (length ds ≡ get_or (set old s.player 0) p 0))
+    sound = λ q lt reached. (let e = here q lt reached in
+        subst (λ (p : ℕ). (ds : List Dir) × IsWalk board s ds p × (length ds ≡ get_or (set old s.player 0) p 0))
         (sym e) ([], stay tt, sym (get_or-set_same old s.player 0 0 inside)));
-    within = λ q lt reached. (let e = ap (λ p. get_or (set old s.player 0) p 0) (here q lt reached) ∙ get_or-set_same old s.player 0 0 inside in omega (arith, e));
+    within = λ q lt reached. (let e = ap (λ p. get_or (set old s.player 0) p 0) (here q lt reached)
+        ∙ get_or-set_same old s.player 0 0 inside in omega (arith, e));
     closed = λ q d lt less. absurd (omega (arith, less));
   };
   count = (let most = unreached_most (set old s.player 0) in omega (arith, most));
@@ -189,7 +191,8 @@ module _ (board : Board) (s : Scene) (r i k : ℕ) (any : Bool) (marks : List �
         | inr ne ↦ u.done q e lt here (inr (qi, omega (arith, less, ne)))
       ]
 
-  module _ (u : IsInRound board s r i k any marks) (within : i < length marks) (away : get_or marks i 0 ≡ r) (at_dir : dir_number d ≡ k) (is : next board i d ≡ n)
+  module _ (u : IsInRound board s r i k any marks) (within : i < length marks) (away : get_or marks i 0 ≡ r)
+      (at_dir : dir_number d ≡ k) (is : next board i d ≡ n)
       (free : IsFree board s.boxes n) (fresh : get_or marks n 0 ≡ UNREACHED) where
     inside : n < length marks
     inside = let lt = inside_grid board n free.0 in let m = u.lengths.room in omega (arith, lt, m)
@@ -223,7 +226,8 @@ module _ (board : Board) (s : Scene) (r i k : ℕ) (any : Bool) (marks : List �
         sound = λ q lt reached. elim (cases_eq q n) [
           | inl e ↦ subst (λ (p : ℕ). (ds : List Dir) × IsWalk board s ds p × (length ds ≡ get_or (set marks n (suc r)) p 0)) (sym e)
               (let (ds, walked, many) = walk_on in (ds, walked, many ∙ sym put))
-          | inr ne ↦ (let (ds, walked, many) = u.lengths.sound q (omega (arith, lt, long)) (λ h. reached (kept q ne ∙ h)) in (ds, walked, many ∙ sym (kept q ne)))
+          | inr ne ↦ (let (ds, walked, many) = u.lengths.sound q (omega (arith, lt, long)) (λ h. reached (kept q ne ∙ h)) in
+              (ds, walked, many ∙ sym (kept q ne)))
         ];
         within = λ q lt reached. elim (cases_eq q n) [
           | inl e ↦ (let f = ap (λ p. get_or (set marks n (suc r)) p 0) e ∙ put in omega (arith, f))
@@ -253,11 +257,13 @@ module _ (board : Board) (s : Scene) (r i k : ℕ) (any : Bool) (marks : List �
               | inr miss ↦ (let f = kept (next board q e) miss in omega (arith, f, near, same))
             ]
 
-        near_now : (q : ℕ) (e : Dir) → get_or (set marks n (suc r)) q 0 ≡ r → (next board q e ≡ n) ⊎ IsNear board s marks q e → IsNear board s (set marks n (suc r)) q e
+        near_now : (q : ℕ) (e : Dir) → get_or (set marks n (suc r)) q 0 ≡ r → (next board q e ≡ n) ⊎ IsNear board s marks q e →
+            IsNear board s (set marks n (suc r)) q e
         near_now q e here (inl hit) open_ = let f = ap (λ p. get_or (set marks n (suc r)) p 0) hit ∙ put in omega (arith, f, here)
         near_now q e here (inr near) open_ = elim (cases_eq (next board q e) n) [
           | inl hit ↦ (let f = ap (λ p. get_or (set marks n (suc r)) p 0) hit ∙ put in omega (arith, f, here))
-          | inr miss ↦ (let f = kept (next board q e) miss in let le = near open_ in let same = kept q (other q (omega (arith, here))) in omega (arith, f, le, same))
+          | inr miss ↦ (let f = kept (next board q e) miss in let le = near open_ in
+              let same = kept q (other q (omega (arith, here))) in omega (arith, f, le, same))
         ]
 
         done_on : (q : ℕ) (e : Dir) → q < length (set marks n (suc r)) → get_or (set marks n (suc r)) q 0 ≡ r → (q < i) ⊎ ((q ≡ i) × (dir_number e < suc k)) →
@@ -266,7 +272,8 @@ module _ (board : Board) (s : Scene) (r i k : ℕ) (any : Bool) (marks : List �
             near_now q e here (inr (u.done q e (omega (arith, lt, long)) (sym (kept q (other q (omega (arith, here)))) ∙ here) (inl before)))
         done_on q e lt here (inr (qi, less)) = elim (cases_eq (dir_number e) k) [
           | inl same ↦ near_now q e here (inl ((λ j. next board (qi j) (dir_same e d (same ∙ sym at_dir) j)) ∙ is))
-          | inr ne ↦ near_now q e here (inr (u.done q e (omega (arith, lt, long)) (sym (kept q (other q (omega (arith, here)))) ∙ here) (inr (qi, omega (arith, less, ne)))))
+          | inr ne ↦ near_now q e here (inr (u.done q e (omega (arith, lt, long))
+              (sym (kept q (other q (omega (arith, here)))) ∙ here) (inr (qi, omega (arith, less, ne)))))
         ]
 
   -- after a look at the next square in a direction
@@ -278,7 +285,8 @@ module _ (board : Board) (s : Scene) (r i k : ℕ) (any : Bool) (marks : List �
   looked new true u lt away at is (free, fresh, written) =
       subst (λ (ms : List ℕ). IsInRound board s r i (suc k) (any || true) ms × (get_or ms i 0 ≡ r) × (length ms ≡ length marks)) (sym written) (
         reaches u lt away at is free fresh,
-        kept u lt away at is free fresh i (λ e. (let f = ap (λ p. get_or marks p 0) e ∙ fresh in let l = low u lt away at is free fresh in omega (arith, f, away, l))) ∙ away,
+        kept u lt away at is free fresh i
+            (λ e. (let f = ap (λ p. get_or marks p 0) e ∙ fresh in let l = low u lt away at is free fresh in omega (arith, f, away, l))) ∙ away,
         long u lt away at is free fresh,
       )
 
@@ -302,7 +310,8 @@ module _ (board : Board) (s : Scene) (marks : List ℕ) (room : length marks ≡
       let more = go.0 in
       (omega (arith, more, mark, le), go.1)
 
-pub round_whole : (board : Board) (s : Scene) (r : ℕ) (marks : List ℕ) → IsScene board s → IsInRound board s r (length marks) 0 false marks → AreWalkLengths board s marks
+pub round_whole : (board : Board) (s : Scene) (r : ℕ) (marks : List ℕ) → IsScene board s → IsInRound board s r (length marks) 0 false marks →
+    AreWalkLengths board s marks
 round_whole board s r marks scene u q (ds, walked) = record {
   some = u.lengths.sound q inside (go ds walked).1;
   least = λ es other. (let le = (go es other).0 in let zero = u.lengths.start in omega (arith, le, zero));
@@ -343,10 +352,6 @@ round_ended board s r n any marks scene e u = (
   where
     at_end : IsInRound board s r (length marks) 0 any marks
     at_end = subst (λ (m : ℕ). IsInRound board s r m 0 any marks) e u
-
--- there are no more rounds than squares
-pub rounds_few : (board : Board) (s : Scene) (r : ℕ) (marks : List ℕ) → IsRound board s r marks → (r ≤ length board.cells) × (length board.cells ≤ MAX_SQUARES)
-rounds_few board s r marks u = let c = u.count in let m = u.lengths.room in let l = u.lengths.small in (omega (arith, c, m), omega (arith, m, l))
 
 -- a square that walks reach is one of the board
 pub area_inside : (board : Board) (s : Scene) (q : ℕ) → IsScene board s → Area board s q → q < length board.cells

@@ -15,7 +15,7 @@ NoneIsBetter board pushes moves = (ds : List Dir) (ps : List Push) → IsSolutio
 abbrev pub IsReachedBy : Board → ℕ → Scene → Type 0
 IsReachedBy board k s = (ds : List Dir) × (ps : List Push) × Play board Any (start board) ds ps s × (length ps ≡ k)
 
--- plays with at most so many pushes reach more states than the limit, no two of them the same
+-- plays with at most `pushes` pushes reach more different states than the limit
 pub record HasMoreStates (board : Board) (pushes limit : ℕ) : Type 0 where
   pub states : List Scene
   pub many : limit < length states

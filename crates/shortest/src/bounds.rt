@@ -36,7 +36,8 @@ impl<'a> Model for Bounds<'a> {
 }
 
 impl<'a> Bounds<'a> {
-    /// The bounds of a level whose solutions have `most` pushes, without tables of regions. Fails only if out of memory.
+    /// The bounds of a level whose solutions have `most` pushes, without tables of regions. Fails only if out of
+    /// memory.
     pub(crate) fn of(alloc: Global, level: &'a Level, most: u32) -> Result<Bounds<'a>, AllocError>
         requires { box_count level.now ≤ MAX_BOXES }
         ensures { IfOk result (λ bounds. (bounds.board ≡ level.now) × (bounds.most ≡ most)) }

@@ -1,8 +1,8 @@
 //! Replaces pieces of a solution by pieces with fewer moves.
 //!
 //! A window is some pushes of the solution, one after the other. Its level has the boxes and the player of the state
-//! before them, and goals where they leave the boxes. If a solution of that level has fewer moves, it takes the place of
-//! the window. Windows are guesses: each new solution is replayed before it takes the place of the old one, and no
+//! before them, and goals where they leave the boxes. If a solution of that level has fewer moves, it takes the place
+//! of the window. Windows are guesses: each new solution is replayed before it takes the place of the old one, and no
 //! contract says how many moves it saves.
 ghost use Rattle.std.specs.Prelude.{◌≡◌, ◌≤◌, IfOk, length};
 ghost use Rattle.lurd.specs.Verdict.{IsVerdict};
@@ -32,8 +32,8 @@ const DISTANCES_A_STATE: usize = 200;
 
 /// A solution with as many pushes as `moves` and at most as many moves. `moves` solve the level with `pushes` pushes.
 ///
-/// It searches short pieces of the solution, in about the time that a search for some 20,000 states takes at most. Fails
-/// only if out of memory.
+/// It searches short pieces of the solution, in about the time that a search for some 20,000 states takes at most.
+/// Fails only if out of memory.
 pub fn improve<R: Threads + Sync>(
     rt: &R,
     alloc: Global,
@@ -82,8 +82,8 @@ fn go_over<R: Threads + Sync>(
     Ok(())
 }
 
-// Tries windows that begin with the same push, each with more pushes, until the search of one ends undecided. Returns the
-// number of pushes of the last that was decided.
+// Tries windows that begin with the same push, each with more pushes, until the search of one ends undecided. Returns
+// the number of pushes of the last that was decided.
 fn widen<R: Threads + Sync>(
     rt: &R,
     alloc: Global,

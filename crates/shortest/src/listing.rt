@@ -39,8 +39,8 @@ pub(crate) fn begun(alloc: Global, level: &Level, first: &Position) -> Result<Vi
     Ok(listed)
 }
 
-/// Lists the states that plays with at most `most` pushes may reach. Returns whether these are at most `limit`. If they are
-/// more, it stops early. Fails only if out of memory.
+/// Lists the states that plays with at most `most` pushes may reach. Returns whether these are at most `limit`. If they
+/// are more, it stops early. Fails only if out of memory.
 pub(crate) fn list_states(
     alloc: Global,
     level: &Level,
@@ -162,7 +162,8 @@ fn state_after(
     requires found { HasPushesOf workspace.old.expander from.now.state }
     requires possible { CanPush bounds.now.board from.now.state push }
     requires fits { FitsLevel bounds.now.board from.now.state }
-    requires slack { (slack.now.board ≡ bounds.now.board) × (slack.now.scene ≡ from.now.state) × (slack.now.left ≡ Some left) }
+    requires slack { (slack.now.board ≡ bounds.now.board) × (slack.now.scene ≡ from.now.state) ×
+        (slack.now.left ≡ Some left) }
     ensures after { IsAfter bounds.now.board left from.now.state push result }
     ensures kept { workspace.new.expander ≡ workspace.old.expander }
 {

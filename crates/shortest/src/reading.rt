@@ -42,7 +42,8 @@ fn least_pushes(
     requires size { tools.old.scratch.size ≡ length states.now.board.cells }
     requires room { length tools.old.walks.lengths.items ≡ length states.now.board.cells }
     ensures { IfOk result (λ pushes. (total : ℕ) × (slice_get rests.now 0 ≡ Some (Some total)) ×
-        (length pushes.items ≡ states.now.most) × Finishes states.now.board (start states.now.board) pushes.items total) }
+        (length pushes.items ≡ states.now.most) ×
+        Finishes states.now.board (start states.now.board) pushes.items total) }
 {
     states.tell();
     let mut pushes = Vec::new(alloc);

@@ -16,8 +16,8 @@ pub(crate) struct Reached {
     pub(crate) pushes: u32,
 }
 
-/// The listed states of a level, and the fewest pushes of its solutions. Each state that may lie on a solution with that
-/// number of pushes is listed.
+/// The listed states of a level, and the fewest pushes of its solutions. Each state that may lie on a solution with
+/// that number of pushes is listed.
 #[derive(Drop)]
 pub(crate) struct States<'a> {
     level: &'a Level,

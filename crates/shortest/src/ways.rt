@@ -57,7 +57,8 @@ pub(crate) fn best_way(
     requires onward { IsOnward states.now rests.now from.now.pushes from.now.state }
     requires size { tools.old.scratch.size ≡ length states.now.board.cells }
     requires room { length tools.old.walks.lengths.items ≡ length states.now.board.cells }
-    ensures way { IfSome result (λ way. IsWay states.now.board states.now.entries rests.now from.now.pushes from.now.state way) }
+    ensures way { IfSome result (λ way. IsWay states.now.board states.now.entries rests.now
+        from.now.pushes from.now.state way) }
     ensures rest { (m : ℕ) → from.now.pushes + suc m ≡ states.now.most →
         IsRestOf states.now.board (suc m) from.now.state (moves_of result) }
     ensures size { tools.new.scratch.size ≡ length states.now.board.cells }
@@ -87,7 +88,8 @@ fn way_by(
     requires possible { CanPush states.now.board from.now.state push }
     requires ready { IsReady states.now.board from.now.state walks.old }
     ensures ready { IsReady states.now.board from.now.state walks.new }
-    ensures way { IfSome result (λ way. IsWay states.now.board states.now.entries rests.now from.now.pushes from.now.state way) }
+    ensures way { IfSome result (λ way. IsWay states.now.board states.now.entries rests.now
+        from.now.pushes from.now.state way) }
     ensures least { (m : ℕ) → from.now.pushes + suc m ≡ states.now.most →
         IsLeastBy states.now.board m from.now.state push (moves_of result) }
 {

@@ -1,5 +1,5 @@
-//! Windows of a solution: their levels, and solutions in which a window is replaced. The contracts say no more than that
-//! the calls are safe.
+//! Windows of a solution: their levels, and solutions in which a window is replaced. The contracts say no more than
+//! that the calls are safe.
 ghost use Rattle.std.specs.Prelude.{◌≡◌, ◌≤◌, IfOk, length};
 ghost use Rattle.grid.specs.States.{IsScene};
 ghost use Rattle.prover.specs.Parity.{SomeHas};
@@ -27,8 +27,8 @@ pub(crate) struct Window {
     pub(crate) size: usize,
 }
 
-/// A guess at a better solution: the fewest moves in a window, then a shortest walk to the next push, and the rest as it
-/// is. `None` if the search of the window ends undecided. Fails only if out of memory.
+/// A guess at a better solution: the fewest moves in a window, then a shortest walk to the next push, and the rest as
+/// it is. `None` if the search of the window ends undecided. Fails only if out of memory.
 pub(crate) fn replaced<R: Threads + Sync>(
     rt: &R,
     alloc: Global,
@@ -133,8 +133,8 @@ fn cell_between(level: &Level, first: &State, last: &State, square: Square) -> C
     }
 }
 
-// The fewest moves that solve the level of a window with as many pushes as the letters. `None` if the letters do not solve
-// it, if fewer pushes suffice, or if the search ends undecided.
+// The fewest moves that solve the level of a window with as many pushes as the letters. `None` if the letters do not
+// solve it, if fewer pushes suffice, or if the search ends undecided.
 fn fewest_moves<R: Threads + Sync>(
     rt: &R,
     alloc: Global,
@@ -193,8 +193,8 @@ fn moves_of(found: Result<MovesOutcome, SearchFault>) -> Result<Option<Moves>, A
     }
 }
 
-// Appends what comes after a window that ends at a place of the letters: a shortest walk to the next push, and the letters
-// from that push on.
+// Appends what comes after a window that ends at a place of the letters: a shortest walk to the next push, and the
+// letters from that push on.
 fn go_on(
     alloc: Global,
     level: &Level,

@@ -1,21 +1,20 @@
 -- A collection, as its levels are searched and written one by one.
-use Rattle.std.proofs.Common.{◌≡◌, ℕ, suc, ◌+◌, ◌<◌, ◌≤◌, Bool, true, false, cond, List, [], ◌∷◌, ◌++◌, length, flat_map, Option, Some, None, Result, Ok, Err}
-use Rattle.std.proofs.Common.{IfOk, IfErr, inl, inr, refl, sym, ap, ◌∙◌, subst, arith, length-append, append-nil, append_assoc}
+use Rattle.std.proofs.Common.{◌≡◌, ℕ, suc, ◌+◌, ◌<◌, ◌≤◌, Bool, cond, List, [], ◌∷◌, ◌++◌, length, Option, Some, None, Result, Ok, Err}
+use Rattle.std.proofs.Common.{IfErr, inl, inr, refl, sym, ap, ◌∙◌, subst, arith, length-append}
 use Rattle.std.specs.List.{count_by}
 use Rattle.std.proofs.lemmas.List.{flat_map_more}
 use Rattle.std.proofs.lemmas.List.Recursion.{is_count_by}
 use Rattle.std.proofs.lemmas.List.Sums.{count_by-le-length}
-use Rattle.grid.specs.Board.{Board}
-use Rattle.grid.specs.declared.fault.LevelFault.{LevelFault}
 use Rattle.xsb.specs.declared.entry.BoardEntry.{BoardEntry}
 use Rattle.xsb.specs.declared.limits.TheConstants.{MAX_FILE}
 use Rattle.xsb.specs.declared.reader.Collection.{Collection}
 use Rattle.xsb.specs.inside.Progress.{HasRead, GivesNext, lines_left}
-use Rattle.sokopar.specs.Collection.{AreReported, none, outside, inside, BeginsCollectionReport, BeginsListing, IsBetween, IsCollectionReport, IsFinding, Reported}
+use Rattle.sokopar.specs.Collection.{AreReported, none, outside, inside, BeginsCollectionReport, BeginsListing, IsBetween, IsCollectionReport, IsFinding}
+use Rattle.sokopar.specs.Collection.{Reported}
 use Rattle.sokopar.specs.Collection.{collection_report, is_optimal, is_undecided, is_unjudged, is_unsolved, reported_line, reported_lines, totals_line}
 use Rattle.sokopar.specs.Ends.{Seen}
 use Rattle.sokopar.specs.Entries.{listed_of}
-use Rattle.sokopar.specs.Listing.{Listed, IsListing}
+use Rattle.sokopar.specs.Listing.{Listed}
 use Rattle.sokopar.specs.Report.{Report}
 use Rattle.sokopar.specs.Runs.{ReadsWhole, RunsByLine, Stops, WritesPart, WritesWhole}
 use Rattle.sokopar.specs.declared.fault.RunFault.{RunFault}
@@ -74,7 +73,8 @@ few-of reported few =
 -- ---- levels
 
 -- how far a collection was reported: the lines of its first levels
-pub record HasReported (wanted : Bool) (cap : Option ℕ) (limit from to : ℕ) (bytes : List ℕ) (left : Collection) (number : ℕ) (totals : Totals) (old new : Seen) : Type 0 where
+pub record HasReported (wanted : Bool) (cap : Option ℕ) (limit from to : ℕ) (bytes : List ℕ) (left : Collection) (number : ℕ)
+    (totals : Totals) (old new : Seen) : Type 0 where
   pub listing : List Listed
   pub so_far : HasListed bytes left listing
   pub reported : List Reported
@@ -85,8 +85,8 @@ pub record HasReported (wanted : Bool) (cap : Option ℕ) (limit from to : ℕ) 
   pub written : WritesWhole old new (reported_lines cap limit reported)
   pub room : number + lines_left left ≤ MAX_FILE
 
-pub reported_none : (wanted : Bool) (cap : Option ℕ) (limit from to : ℕ) (bytes : List ℕ) (left : Collection) (totals : Totals) (seen : Seen) → HasRead bytes left [] →
-    lines_left left ≤ MAX_FILE → totals ≡ totals_of [] → HasReported wanted cap limit from to bytes left 0 totals seen seen
+pub reported_none : (wanted : Bool) (cap : Option ℕ) (limit from to : ℕ) (bytes : List ℕ) (left : Collection) (totals : Totals) (seen : Seen) →
+    HasRead bytes left [] → lines_left left ≤ MAX_FILE → totals ≡ totals_of [] → HasReported wanted cap limit from to bytes left 0 totals seen seen
 reported_none wanted cap limit from to bytes left totals seen read few is = record {
   listing = [];
   so_far = record { founds = []; read = read; each = tt };
@@ -107,8 +107,8 @@ reported_few wanted cap limit from to bytes left number totals old new is =
     subst (λ (t : Totals). AreFew t) (sym is.totals_are) (few-of is.reported (omega (arith, counted_are, few, room)))
 
 -- a level more, whose number is not in the range
-pub reported_outside : {wanted : Bool} {cap : Option ℕ} {limit from to : ℕ} {bytes : List ℕ} {first : Collection} {number : ℕ} {totals : Totals} {old new : Seen}
-    (last : Collection) (entry : BoardEntry) (is : HasReported wanted cap limit from to bytes first number totals old new) →
+pub reported_outside : {wanted : Bool} {cap : Option ℕ} {limit from to : ℕ} {bytes : List ℕ} {first : Collection} {number : ℕ}
+    {totals : Totals} {old new : Seen} (last : Collection) (entry : BoardEntry) (is : HasReported wanted cap limit from to bytes first number totals old new) →
     GivesNext bytes is.so_far.founds last (Some entry) → lines_left last < lines_left first → ¬ (IsBetween from to (number + 1)) →
     HasReported wanted cap limit from to bytes last (number + 1) totals old new
 reported_outside {wanted} {cap} {limit} {from} {to} {bytes} {first} {number} {totals} {old} {new} last entry is next fewer not =
@@ -157,7 +157,8 @@ reported_inside {wanted} {cap} {limit} {from} {to} {bytes} {first} {number} {tot
       listing = is.listing ++ listed_of entry ∷ [];
       so_far = listed-more last entry is.so_far next;
       reported = is.reported ++ one ∷ [];
-      right = right-more wanted cap limit from to (number + 1) is.listing is.reported (listed_of entry) finding is.right (omega (arith, counted_are)) within sends.1;
+      right = right-more wanted cap limit from to (number + 1) is.listing is.reported (listed_of entry) finding is.right
+          (omega (arith, counted_are)) within sends.1;
       counted_are = omega (arith, counted_are, long);
       totals_are = sends.3 ∙ ap (λ (t : Totals). counted t finding) is.totals_are ∙ totals-last is.reported (number + 1) finding;
       few = omega (arith, long, few, wider);
@@ -186,7 +187,8 @@ stopped_within {wanted} {cap} {limit} {from} {to} {bytes} {first} {number} {tota
     let counted_are = is.counted_are in
     let one : Reported = record { number = number + 1; finding = sends.0 } in
     let so_far = listed-more last entry is.so_far next in
-    let right = right-more wanted cap limit from to (number + 1) is.listing is.reported (listed_of entry) sends.0 is.right (omega (arith, counted_are)) within sends.1 in (
+    let right = right-more wanted cap limit from to (number + 1) is.listing is.reported (listed_of entry) sends.0 is.right
+    (omega (arith, counted_are)) within sends.1 in (
       reported_lines cap limit is.reported,
       reported_line cap limit one,
       (

@@ -1,9 +1,8 @@
 -- The reports of a search for the fewest pushes.
-use Rattle.std.proofs.Common.{◌≡◌, ℕ, suc, ◌<◌, ◌≤◌, Bool, true, false, List, length, Option, Some, None, Result, Ok, Err, IfOk, inl, inr, sym, ap, subst, arith}
-use Rattle.std.proofs.Common.{unwrap_or}
+use Rattle.std.proofs.Common.{◌≡◌, ℕ, ◌<◌, ◌≤◌, Bool, true, false, List, length, Option, Some, None, Result, Ok, Err, IfOk, inl, inr, sym, subst, arith}
 use Rattle.std.proofs.lemmas.List.Sums.{count_by-le-length}
 use Rattle.grid.specs.Board.{Board}
-use Rattle.grid.specs.Lawful.{IsLevel, box_count}
+use Rattle.grid.specs.Lawful.{box_count}
 use Rattle.grid.specs.declared.limits.TheConstants.{MAX_BOXES}
 use Rattle.grid.specs.declared.moves.Letter.{Letter}
 use Rattle.lurd.specs.Text.{IsText, HasTextFault}
@@ -12,9 +11,7 @@ use Rattle.lurd.specs.declared.fault.LurdFault.{LurdFault}
 use Rattle.lurd.specs.declared.limits.TheConstants.{MAX_MOVES}
 use Rattle.lurd.specs.declared.verdict.Verdict.{Verdict}
 use Rattle.lurd.specs.declared.verdict.Verdict.TheVariants.{Solved, Unsolved, Blocked, WrongCase}
-use Rattle.lurd.proofs.lemmas.Solutions.{solution_of_solved}
 use Rattle.prover.specs.Fewest.{NoneHasFewer}
-use Rattle.prover.specs.Parity.{SomeHas, TwoLessDecide}
 use Rattle.prover.specs.Outcomes.{IsOutcome}
 use Rattle.prover.specs.declared.outcome.Outcome.{Outcome}
 use Rattle.prover.specs.declared.outcome.Outcome.TheVariants.{Least, NoneWithin, Unsolvable, Limit}
@@ -138,26 +135,6 @@ pub claim_open : (wanted : Bool) (limit : ℕ) (board : Board) (pushes moves : �
 claim_open wanted limit board pushes moves o e is limited =
     subst (λ (b : Bool). IsClaim b limit board pushes moves Open) (sym e) (subst (λ (x : MovesOutcome). IsMovesOutcome board pushes limit x) limited is)
 
--- letters that solve a level write a solution
-pub solved_has : (board : Board) (letters : List Letter) (pushes : ℕ) → IsVerdict board letters (Solved pushes (length letters)) → SomeHas board pushes
-solved_has board letters pushes is = let w = solution_of_solved board letters pushes (length letters) is in (_, w.list, w.solution, w.pushes_are)
-
--- what a search for the fewest moves found
-pub fewest_of : (limit : ℕ) (board : Board) (pushes : ℕ) (o : MovesOutcome) (letters : List Letter) → IsMovesOutcome board pushes limit o →
-    o ≡ moves_outcome.Least letters → IsMovesOutcome board pushes limit (moves_outcome.Least letters)
-fewest_of limit board pushes o letters is e = subst (λ (x : MovesOutcome). IsMovesOutcome board pushes limit x) e is
-
--- no solution has as few pushes as two less
-pub none_has_fewer : (board : Board) (limit pushes : ℕ) (most : ℕ) (o : Outcome) → TwoLessDecide board → IsLevel board → SomeHas board pushes →
-    IsOutcome board (Some most) limit o → o ≡ NoneWithin → pushes ≡ suc (suc most) → NoneHasFewer board pushes
-none_has_fewer board limit pushes most o law level some so e two = by (subst (λ (x : Outcome). IsOutcome board (Some most) limit x) e so)
-  where
-    by : IsOutcome board (Some most) limit NoneWithin → NoneHasFewer board pushes
-    by (cap, is, none) =
-        let same : cap ≡ most = sym (ap (λ (n : Option ℕ). unwrap_or n 0) is) in
-        let long : pushes ≡ suc (suc cap) = omega (arith, same, two) in
-        subst (λ (n : ℕ). NoneHasFewer board n) (sym long) (law level cap (subst (λ (n : ℕ). SomeHas board n) long some) none)
-
 pub judged_limit : {E : Type 0} (wanted : Bool) (limit most : ℕ) (board : Board) (pushes moves bound : ℕ) (o : Outcome) (r : Result Report E) →
     box_count board ≤ MAX_BOXES → IsOutcome board (Some most) limit o → o ≡ Limit bound →
     IfOk r (λ report. report ≡ proving.undecided_report limit bound pushes moves) → IfOk r (λ report. IsOfSolved wanted limit board pushes moves report)
@@ -180,13 +157,7 @@ pub ruleset of_judged = (judged_few, judged_limit, judged_many)
 
 -- ---- letters and texts
 
--- letters that solve the level write a solution
-pub some_has : (board : Board) (letters : List Letter) (v : Verdict) (pushes moves : ℕ) → v ≡ Solved pushes moves → IsVerdict board letters v →
-    SomeHas board pushes
-some_has board letters v pushes moves e is =
-    let w = solution_of_solved board letters pushes moves (subst (λ (u : Verdict). IsVerdict board letters u) e is) in (_, w.list, w.solution, w.pushes_are)
-
--- and they have no more pushes than moves
+-- letters that solve the level have no more pushes than moves
 pub few_pushes : (board : Board) (letters : List Letter) (v : Verdict) (pushes moves : ℕ) → v ≡ Solved pushes moves → IsVerdict board letters v →
     length letters ≤ MAX_MOVES → pushes ≤ MAX_MOVES
 few_pushes board letters v pushes moves e is few =
@@ -212,28 +183,31 @@ of_unsolved wanted limit board letters v pushes moves (Ok report) e is has =
     (Unsolved pushes moves, subst (λ (u : Verdict). IsVerdict board letters u) e is, subst (λ (u : Verdict). report ≡ verdict_report u) e has)
 of_unsolved wanted limit board letters v pushes moves (Err x) e is has = tt
 
-pub of_blocked : {E : Type 0} (wanted : Bool) (limit : ℕ) (board : Board) (letters : List Letter) (v : Verdict) (place : ℕ) (r : Result Report E) → v ≡ Blocked place →
-    IsVerdict board letters v → IfOk r (λ report. report ≡ verdict_report v) → IfOk r (λ report. IsOfMoves wanted limit board letters report)
+pub of_blocked : {E : Type 0} (wanted : Bool) (limit : ℕ) (board : Board) (letters : List Letter) (v : Verdict) (place : ℕ) (r : Result Report E) →
+    v ≡ Blocked place → IsVerdict board letters v → IfOk r (λ report. report ≡ verdict_report v) →
+    IfOk r (λ report. IsOfMoves wanted limit board letters report)
 of_blocked wanted limit board letters v place (Ok report) e is has =
     (Blocked place, subst (λ (u : Verdict). IsVerdict board letters u) e is, subst (λ (u : Verdict). report ≡ verdict_report u) e has)
 of_blocked wanted limit board letters v place (Err x) e is has = tt
 
-pub of_wrong_case : {E : Type 0} (wanted : Bool) (limit : ℕ) (board : Board) (letters : List Letter) (v : Verdict) (place : ℕ) (r : Result Report E) → v ≡ WrongCase place →
-    IsVerdict board letters v → IfOk r (λ report. report ≡ verdict_report v) → IfOk r (λ report. IsOfMoves wanted limit board letters report)
+pub of_wrong_case : {E : Type 0} (wanted : Bool) (limit : ℕ) (board : Board) (letters : List Letter) (v : Verdict) (place : ℕ) (r : Result Report E) →
+    v ≡ WrongCase place → IsVerdict board letters v → IfOk r (λ report. report ≡ verdict_report v) →
+    IfOk r (λ report. IsOfMoves wanted limit board letters report)
 of_wrong_case wanted limit board letters v place (Ok report) e is has =
     (WrongCase place, subst (λ (u : Verdict). IsVerdict board letters u) e is, subst (λ (u : Verdict). report ≡ verdict_report u) e has)
 of_wrong_case wanted limit board letters v place (Err x) e is has = tt
 
 -- the report of letters depends on their verdict
-pub ruleset of_verdict = (some_has, few_pushes, of_solved, of_unsolved, of_blocked, of_wrong_case)
+pub ruleset of_verdict = (few_pushes, of_solved, of_unsolved, of_blocked, of_wrong_case)
 
 -- the report of a text
-pub of_text : {E : Type 0} (wanted : Bool) (limit : ℕ) (board : Board) (solution : List ℕ) (letters : List Letter) (r : Result Report E) → IsText solution letters →
-    IfOk r (λ report. IsOfMoves wanted limit board letters report) → IfOk r (λ report. proving.IsProofOf wanted limit board solution report)
+pub of_text : {E : Type 0} (wanted : Bool) (limit : ℕ) (board : Board) (solution : List ℕ) (letters : List Letter) (r : Result Report E) →
+    IsText solution letters → IfOk r (λ report. IsOfMoves wanted limit board letters report) →
+    IfOk r (λ report. proving.IsProofOf wanted limit board solution report)
 of_text wanted limit board solution letters (Ok report) text has = inl (letters, has.0, text, has.1, has.2)
 of_text wanted limit board solution letters (Err e) text has = tt
 
-pub of_fault : {E : Type 0} (wanted : Bool) (limit : ℕ) (board : Board) (solution : List ℕ) (fault : LurdFault) (r : Result Report E) → HasTextFault solution fault →
-    IfOk r (λ report. report ≡ text_fault_report fault) → IfOk r (λ report. proving.IsProofOf wanted limit board solution report)
+pub of_fault : {E : Type 0} (wanted : Bool) (limit : ℕ) (board : Board) (solution : List ℕ) (fault : LurdFault) (r : Result Report E) →
+    HasTextFault solution fault → IfOk r (λ report. report ≡ text_fault_report fault) → IfOk r (λ report. proving.IsProofOf wanted limit board solution report)
 of_fault wanted limit board solution fault (Ok report) has is = inr (fault, has, is)
 of_fault wanted limit board solution fault (Err e) has is = tt

@@ -21,10 +21,10 @@ pub record IsListed (listed : Listed) (found : Found) : Type 0 where
 abbrev pub IsListing : List ℕ → List Listed → Type 0
 IsListing bytes listing = (founds : List Found) × IsCollection bytes founds × AllZip IsListed listing founds
 
--- level N of a listing, counted from 1; none where there are fewer
+-- level n of a listing, counted from 1; none where there are fewer
 abbrev pub level_at : List Listed → ℕ → Option (Result Board LevelFault)
 level_at listing n = option_map (λ listed. listed.board) (slice_get listing (n - 1))
 
--- level N of the collection is lawful, and its board is this
+-- level n of the collection is lawful and has this board
 abbrev pub IsLevelOf : List ℕ → ℕ → Board → Type 0
 IsLevelOf bytes n board = (listing : List Listed) × IsListing bytes listing × (level_at listing n ≡ Some (Ok board))

@@ -47,8 +47,8 @@ pub struct CollectionRequest {
     pub config: SearchConfig,
 }
 
-/// The level for [`run_prove`], counted from 1, the limit of positions, the number of workers, and whether it also looks
-/// for the fewest moves, as for [`run_best`].
+/// The level for [`run_prove`], counted from 1, the limit of positions, the number of workers, and whether it also
+/// looks for the fewest moves, as for [`run_best`].
 #[derive(Clone, Copy, PartialEq, Eq, Debug)]
 pub struct ProveRequest {
     pub number: u32,
@@ -85,8 +85,8 @@ pub fn run_best<R: Threads + Sync, S: Source, K: Sink>(
 #[tactic(auto, using(crate::proofs::ByLine::runs_by_line, crate::proofs::ByLine::stopped_reading))]
 /// Finds a solution with the fewest pushes of each level of a part of a collection, one level after the other. Writes a
 /// line for each level before it goes on to the next one, and the totals. Returns the exit status: 0 if it finds a
-/// solution for each level and no search ended at its limit, else 4 if one did, else 1. The totals count a level as open
-/// if a search ended at its limit, even if it has a solution with the fewest pushes.
+/// solution for each level and no search ended at its limit, else 4 if one did, else 1. The totals count a level as
+/// open if a search ended at its limit, even if it has a solution with the fewest pushes.
 ///
 /// Fails as [`run_check`](crate::run_check) does, except that it may run out of memory after some lines; then it has
 /// written these lines whole. If a write fails, it has written all lines before whole, and a beginning of this one.

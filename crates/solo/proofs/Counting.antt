@@ -3,17 +3,17 @@ use Rattle.std.proofs.Common.{◌≡◌, ℕ, zero, suc, ◌+◌, ◌<◌, ◌�
 use Rattle.std.proofs.Common.{None, Some, IfSome, inl, inr, refl, sym, ap, subst, ◌∙◌, arith}
 use Rattle.std.specs.Prelude.{slice_get}
 use Rattle.std.proofs.lemmas.Bool.{cases_lt}
-use Rattle.std.proofs.lemmas.List.{length-set}
 use Rattle.std.proofs.lemmas.List.Sums.{sum_by_push}
-use Rattle.std.proofs.lemmas.Option.{none-some, same_Some, slice_get-get_or, slice_get_within}
+use Rattle.std.proofs.lemmas.Option.{none-some, same_Some, slice_get_within}
 use Rattle.layers.specs.LayerView.{LayerView}
 use Rattle.layers.specs.BookView.{AreLawfulBooks, BookView, IsLawfulBook}
 use Rattle.layers.specs.Books.{AllDone, HasBegun}
 use Rattle.layers.specs.Holding.{all_held, held}
-use Rattle.successors.proofs.lemmas.Lists.{sum_by_first, take_push}
+use Rattle.successors.proofs.lemmas.Lists.{each_set, set_here, sum_by_first, take_push}
+use Rattle.solo.specs.inside.Iterations.{AreDoneBy, IsDoneBy}
 use Rattle.solo.specs.inside.Together.{AreStill, IsFull, IsStill, PassTogether}
-use Rattle.solo.proofs.Each.{set_here, set_there}
-use Rattle.solo.proofs.lemmas.Together.{back_to}
+use Rattle.solo.proofs.Credits.{by_nobody}
+use Rattle.solo.proofs.Each.{HaveChangedUpTo, ended_at, next_kept, some_changed}
 
 -- one more book is counted
 pub held_more : (books : List BookView) (place : ℕ) (v : BookView) → slice_get books place ≡ Some v →
@@ -31,54 +31,6 @@ lawful_more books place v at lawful before i u lt at_u = elim (cases_lt i place)
   | inr more ↦ (let e : place ≡ i = omega arith in subst IsLawfulBook (same_Some v u (sym at ∙ ap (slice_get books) e ∙ at_u)) lawful)
 ]
 
--- at first each book is still at work
-pub still_first : (layer : LayerView) (books : List BookView) → ((i : ℕ) (v : BookView) → slice_get books i ≡ Some v → HasBegun v layer) →
-    AreStill layer books books
-still_first layer books begun = (refl, λ i v at. (v, at, ((refl, refl, refl, refl, refl), refl, begun i v at)))
-
-still_twice : (layer : LayerView) (v u w : BookView) → IsStill layer v u → IsStill layer u w → IsStill layer v w
-still_twice layer v u w (a, closed, begun) (b, more, still) = ((a.0 ∙ b.0, a.1 ∙ b.1, a.2 ∙ b.2, a.3 ∙ b.3, a.4 ∙ b.4), more ∙ closed, still)
-
--- and so is each where one of them works on
-still_set : (layer : LayerView) (before books : List BookView) (place : ℕ) (u w : BookView) → AreStill layer before books →
-    slice_get books place ≡ Some u → IsStill layer u w → AreStill layer before (set books place w)
-still_set layer before books place u w (same, each) at still = (length-set books place w ∙ same, λ i v at_v. one i v at_v)
-  where
-    one : (i : ℕ) (v : BookView) → slice_get before i ≡ Some v → (x : BookView) × (slice_get (set books place w) i ≡ Some x) × IsStill layer v x
-    one i v at_v =
-        let old = each i v at_v in
-        elim (cases_lt i place) [
-          | inl less ↦ (old.0, set_there books place i w (λ e. absurd (omega (arith, e, less))) ∙ old.1, old.2)
-          | inr more ↦ elim (cases_lt place i) [
-            | inl less ↦ (old.0, set_there books place i w (λ e. absurd (omega (arith, e, less))) ∙ old.1, old.2)
-            | inr le ↦ (let e : place ≡ i = omega arith in
-                let is : old.0 ≡ u = same_Some old.0 u (sym old.1 ∙ ap (slice_get books) (sym e) ∙ at) in (
-                  w,
-                  subst (λ j. slice_get (set books place w) j ≡ Some w) e (set_here books place w (slice_get_within books place u at)),
-                  still_twice layer v u w (subst (IsStill layer v) is old.2) still,
-                ))
-          ]
-        ]
-
--- so in a loop over them, where what was called before left them the same
-pub still_next : (layer : LayerView) (before now books : List BookView) (place : ℕ) (d w : BookView) → books ≡ now → AreStill layer before now →
-    place < length before → IsStill layer (get_or books place d) w → AreStill layer before (set books place w)
-still_next layer before now books place d w same still lt on =
-    let here : AreStill layer before books = subst (AreStill layer before) (sym same) still in
-    still_set layer before books place (get_or books place d) w here (slice_get-get_or books place d (omega (arith, lt, here.0))) on
-
--- and is at work on the layer
-pub still_begun : (layer : LayerView) (before after : List BookView) → AreStill layer before after → (i : ℕ) (u : BookView) → slice_get after i ≡ Some u →
-    HasBegun u layer
-still_begun layer before after still i u at = (back_to layer before after still i u at).2.2
-
--- the first n of at most n are all
-pub take_whole : {A : Type 0} (xs : List A) (n : ℕ) → length xs ≤ n → take n xs ≡ xs
-take_whole [] zero le = refl
-take_whole [] (suc n) le = refl
-take_whole (x ∷ xs) zero le = absurd (omega arith)
-take_whole (x ∷ xs) (suc n) le = ap (λ ys. x ∷ ys) (take_whole xs n (omega arith))
-
 -- a lawful book holds fewer positions than a number of 32 bits counts
 pub held_few : (v : BookView) → IsLawfulBook v → held v ≤ 4294967295
 held_few v book = omega (arith, book.within, book.bounds.limits)
@@ -93,35 +45,45 @@ held_set (b ∷ books) zero v w at = omega (arith, sum_by_first held w books, su
 held_set (b ∷ books) (suc place) v w at =
     omega (arith, sum_by_first held b (set books place w), sum_by_first held b books, held_set books place v w at)
 
--- all are lawful
-lawful_set : (books : List BookView) (place : ℕ) (w : BookView) → ((i : ℕ) (v : BookView) → slice_get books i ≡ Some v → IsLawfulBook v) → IsLawfulBook w →
-    (i : ℕ) (v : BookView) → slice_get (set books place w) i ≡ Some v → IsLawfulBook v
-lawful_set [] place w all new i v at = absurd (none-some v at)
-lawful_set (b ∷ books) zero w all new zero v at = subst IsLawfulBook (same_Some w v at) new
-lawful_set (b ∷ books) zero w all new (suc i) v at = all (suc i) v at
-lawful_set (b ∷ books) (suc place) w all new zero v at = all zero v at
-lawful_set (b ∷ books) (suc place) w all new (suc i) v at = lawful_set books place w (λ j. all (suc j)) new i v at
-
--- one more of the books has done all its ranks
-pub done_set : (books : List BookView) (place : ℕ) (w : BookView) → place < length books →
-    ((i : ℕ) (v : BookView) → i < place → slice_get books i ≡ Some v → AllDone v) → AllDone w →
-    (i : ℕ) (v : BookView) → i < place + 1 → slice_get (set books place w) i ≡ Some v → AllDone v
-done_set books place w lt all new i v before at = elim (cases_lt i place) [
-  | inl less ↦ all i v less (sym (set_there books place i w (λ e. absurd (omega (arith, e, less)))) ∙ at)
-  | inr more ↦ (let e : place ≡ i = omega arith in
-      subst AllDone (same_Some w v (sym (set_here books place w lt) ∙ ap (slice_get (set books place w)) e ∙ at)) new)
-]
-
 -- where it holds more than the limit leaves, or is over, they pass the limit together
 pub full_pass : (limit left : ℕ) (books : List BookView) (place : ℕ) (v w : BookView) → left + all_held books ≡ limit → AreLawfulBooks books →
     slice_get books place ≡ Some v → IsLawfulBook w → IsFull (held v + left) w → PassTogether limit (set books place w)
 full_pass limit left books place v w leaves all at new full = (
-  lawful_set books place w all new,
+  each_set IsLawfulBook books place w new all,
   elim full [
     | inl over ↦ inl (place, w, set_here books place w (slice_get_within books place v at), over)
     | inr more ↦ inr (omega (arith, leaves, more, held_set books place v w at))
   ],
 )
+
+-- the book is still at work on the layer, only the worker gets credit, and each rank is done
+abbrev pub IsDoneWith : LayerView → ℕ → BookView → BookView → Type 0
+IsDoneWith layer worker v w = IsStill layer v w × IsDoneBy worker v w × AllDone w
+
+module _ (layer : LayerView) (worker : ℕ) (before now : List BookView) (place : ℕ) (so : HaveChangedUpTo (IsDoneWith layer worker) before place now)
+    (begun : (i : ℕ) (v : BookView) → slice_get before i ≡ Some v → HasBegun v layer) where
+  still_itself : (i : ℕ) (v : BookView) → slice_get before i ≡ Some v → IsStill layer v v
+  still_itself i v at = ((refl, refl, refl, refl, refl), refl, begun i v at)
+
+  -- a loop over them ends before the next one
+  pub all_still : AreStill layer before now
+  all_still = some_changed (IsDoneWith layer worker) (IsStill layer) before place now (λ v w e. e.0) still_itself so
+
+  pub all_credited : AreDoneBy worker before now
+  all_credited = some_changed (IsDoneWith layer worker) (IsDoneBy worker) before place now (λ v w e. e.1) (λ i v at. by_nobody worker v v refl refl) so
+
+  -- or with it, where what was called before left them the same
+  module _ (books : List BookView) (d : BookView) (same : books ≡ now) (lt : place < length before) where
+    pub next_same : slice_get before place ≡ Some (get_or books place d)
+    next_same = next_kept (IsDoneWith layer worker) before place books d lt (subst (HaveChangedUpTo (IsDoneWith layer worker) before place) (sym same) so)
+
+    pub next_still : (w : BookView) → IsStill layer (get_or books place d) w → AreStill layer before (set books place w)
+    next_still w on = ended_at (IsDoneWith layer worker) (IsStill layer) before place books (get_or books place d) w (λ x y e. e.0) still_itself
+        (subst (HaveChangedUpTo (IsDoneWith layer worker) before place) (sym same) so) next_same on
+
+    pub next_credited : (w : BookView) → IsDoneBy worker (get_or books place d) w → AreDoneBy worker before (set books place w)
+    next_credited w by = ended_at (IsDoneWith layer worker) (IsDoneBy worker) before place books (get_or books place d) w (λ x y e. e.1)
+        (λ i v at. by_nobody worker v v refl refl) (subst (HaveChangedUpTo (IsDoneWith layer worker) before place) (sym same) so) next_same by
 
 -- what holds whatever is given, beside what holds of it
 pub both_if_some : {A : Type 0} {P : Type 0} (Q : A → Type 0) (o : Option A) → P → IfSome o Q → IfSome o (λ x. P × Q x)

@@ -1,15 +1,14 @@
 -- Which worker gets credit for the ranks that are done.
-use Rattle.std.proofs.Common.{◌≡◌, ℕ, zero, suc, ◌+◌, ◌<◌, Bool, true, false, not, cond, List, [], ◌∷◌, length, count_by, get_or, set, Some, refl, sym, ap}
-use Rattle.std.proofs.Common.{subst, ◌∙◌, arith}
+use Rattle.std.proofs.Common.{◌≡◌, ℕ, zero, suc, ◌+◌, Bool, true, false, not, cond, List, [], ◌∷◌, count_by, get_or, set, Some}
+use Rattle.std.proofs.Common.{refl, sym, ap, subst, ◌∙◌, arith}
 use Rattle.std.specs.Prelude.{slice_get}
+use Rattle.std.proofs.lemmas.List.{set-get_or}
 use Rattle.std.proofs.lemmas.Option.{same_Some}
 use Rattle.successors.proofs.lemmas.Lists.{sum_by_first}
 use Rattle.successors.specs.ParcelView.{ParcelView}
 use Rattle.layers.specs.BookView.{BookView}
-use Rattle.store.specs.Entries.{Closed}
-use Rattle.layers.specs.Books.{AllDone, with_closed, with_parcel}
-use Rattle.solo.specs.inside.Iterations.{AreDoneBy, IsDoneBy}
-use Rattle.solo.proofs.Each.{HaveChangedUpTo, next_kept, one_changed, some_changed}
+use Rattle.layers.specs.Books.{with_parcel}
+use Rattle.solo.specs.inside.Iterations.{IsDoneBy}
 
 -- ---- numbers and marks
 
@@ -21,20 +20,8 @@ count_not-set (b ∷ bs) zero e =
 count_not-set (b ∷ bs) (suc i) e =
     omega (arith, sum_by_first (λ c. cond (not c) 1 0) b (set bs i true), sum_by_first (λ c. cond (not c) 1 0) b bs, count_not-set bs i e)
 
-count_not-all : (bs : List Bool) → ((r : ℕ) → r < length bs → get_or bs r false ≡ true) → count_by not bs ≡ 0
-count_not-all [] all = refl
-count_not-all (b ∷ bs) all =
-    omega (
-      arith,
-      sum_by_first (λ c. cond (not c) 1 0) b bs,
-      ap {B = ℕ} (λ c. cond (not c) 1 0) (all zero (omega arith)),
-      count_not-all bs (λ r lt. all (suc r) (omega arith)),
-    )
-
 add_nothing : (ns : List ℕ) (i : ℕ) → ns ≡ set ns i (get_or ns i 0 + 0)
-add_nothing [] i = refl
-add_nothing (n ∷ ns) zero = ap (λ k. k ∷ ns) (omega arith)
-add_nothing (n ∷ ns) (suc i) = ap (λ ks. n ∷ ks) (add_nothing ns i)
+add_nothing ns i = let same : get_or ns i 0 + 0 ≡ get_or ns i 0 = omega arith in sym (ap (set ns i) same ∙ set-get_or ns i 0)
 
 add_both : (ns : List ℕ) (i a b : ℕ) → set (set ns i (get_or ns i 0 + a)) i (get_or (set ns i (get_or ns i 0 + a)) i 0 + b) ≡ set ns i (get_or ns i 0 + (a + b))
 add_both [] i a b = refl
@@ -58,27 +45,3 @@ pub by_parcel : (worker : ℕ) (before after : BookView) (parcel : ParcelView) �
     after ≡ with_parcel before worker parcel → IsDoneBy worker before after
 by_parcel worker before after parcel free is = subst (IsDoneBy worker before) (sym is)
     (1, count_not-set before.done parcel.rank free, ap (λ n. set before.tallies worker n) (omega arith))
-
--- where all ranks are done a close credits nobody
-pub by_close : (worker : ℕ) (before after : BookView) → AllDone before → ((es : List Closed) × (after ≡ with_closed before es)) → IsDoneBy worker before after
-by_close worker before after all (es, is) = subst (IsDoneBy worker before) (sym is)
-    (0, omega (arith, count_not-all before.done all.1), add_nothing before.tallies worker)
-
--- ---- several books
-
--- those that were come to
-pub are_done_by : (worker : ℕ) (before : List BookView) (place : ℕ) (books : List BookView) → HaveChangedUpTo (IsDoneBy worker) before place books →
-    AreDoneBy worker before books
-are_done_by worker before place books so = (
-  so.same,
-  λ i v at. some_changed (IsDoneBy worker) before place books (λ x. by_nobody worker x x refl refl) so i v at,
-)
-
--- and the next one of a loop over them, where what was called before left them the same
-pub done_by_next : (worker : ℕ) (before now books : List BookView) (place : ℕ) (d w : BookView) → books ≡ now →
-    HaveChangedUpTo (IsDoneBy worker) before place now → place < length before → IsDoneBy worker (get_or books place d) w →
-    AreDoneBy worker before (set books place w)
-done_by_next worker before now books place d w same so lt by =
-    let here : HaveChangedUpTo (IsDoneBy worker) before place books = subst (HaveChangedUpTo (IsDoneBy worker) before place) (sym same) so in
-    are_done_by worker before (place + 1) (set books place w)
-    (one_changed (IsDoneBy worker) before place books (get_or books place d) w here (next_kept (IsDoneBy worker) before place books d lt here) by)

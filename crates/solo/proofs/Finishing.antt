@@ -1,42 +1,21 @@
 -- The ranks of a layer that are left, done one by one.
-use Rattle.std.proofs.Common.{◌≡◌, ◌⊎◌, ℕ, zero, suc, ◌-◌, ◌<◌, Bool, true, false, List, [], ◌∷◌, length, count_by, get_or, set, Some, None, inl, inr, refl}
+use Rattle.std.proofs.Common.{◌≡◌, ℕ, ◌-◌, ◌<◌, Bool, true, false, length, count_by, get_or, set, Some, None, inl, inr, refl}
 use Rattle.std.proofs.Common.{sym, ap, subst, ◌∙◌, arith}
 use Rattle.std.specs.Prelude.{slice_get}
-use Rattle.std.proofs.lemmas.List.{length-append, length-set}
+use Rattle.std.proofs.lemmas.Bool.{false≢true}
+use Rattle.std.proofs.lemmas.List.{get_or-set_same, length-set}
 use Rattle.std.proofs.lemmas.List.Sums.{count_by-le-length}
-use Rattle.std.proofs.lemmas.Option.{slice_get_within}
+use Rattle.std.proofs.lemmas.Option.{get_or_from_slice_get, slice_get_within}
 use Rattle.layers.specs.declared.book.Claim.{Claim}
 use Rattle.layers.specs.LayerView.{LayerView, IsWhole}
 use Rattle.successors.specs.ParcelView.{ParcelView}
 use Rattle.layers.specs.BookView.{BookView, IsDone, IsLawfulBook}
-use Rattle.store.specs.Entries.{Closed}
-use Rattle.layers.specs.Books.{AllDone, ClaimAnswer, HasBegun, IsAtWork, with_closed, with_parcel, with_reopened}
+use Rattle.layers.specs.Books.{AllDone, ClaimAnswer, CloseRefused, HasBegun, IsAtWork, with_parcel, with_reopened}
+use Rattle.layers.specs.declared.fault.CloseFault.TheVariants.{NotAll}
 use Rattle.layers.specs.Events.{AreMadeAlike}
-use Rattle.layers.proofs.lemmas.Books.{begun_ranks}
+use Rattle.layers.proofs.lemmas.Books.{begun_ranks, true_cases, true_kept}
 use Rattle.successors.proofs.lemmas.Lists.{count-set_true}
-use Rattle.solo.specs.inside.Iterations.{IsDue, IsOfRank, IsStillAt, WorkAnswer, with_over}
-use Rattle.solo.specs.declared.ranks.Worked.TheVariants.{Through, Over}
-
--- ---- marks over ranks
-
-at_set : (bs : List Bool) (i j : ℕ) → get_or (set bs i true) j false ≡ true → (j ≡ i) ⊎ (get_or bs j false ≡ true)
-at_set [] i j e = inr e
-at_set (b ∷ bs) zero zero e = inl refl
-at_set (b ∷ bs) zero (suc j) e = inr e
-at_set (b ∷ bs) (suc i) zero e = inr e
-at_set (b ∷ bs) (suc i) (suc j) e = elim (at_set bs i j e) [ inl same ↦ inl (ap suc same) | inr old ↦ inr old ]
-
-still_set : (bs : List Bool) (i j : ℕ) → get_or bs j false ≡ true → get_or (set bs i true) j false ≡ true
-still_set [] i j e = e
-still_set (b ∷ bs) zero zero e = refl
-still_set (b ∷ bs) zero (suc j) e = e
-still_set (b ∷ bs) (suc i) zero e = e
-still_set (b ∷ bs) (suc i) (suc j) e = still_set bs i j e
-
-set_here : (bs : List Bool) (i : ℕ) → i < length bs → get_or (set bs i true) i false ≡ true
-set_here [] i lt = absurd (omega arith)
-set_here (b ∷ bs) zero lt = refl
-set_here (b ∷ bs) (suc i) lt = set_here bs i (omega arith)
+use Rattle.solo.specs.inside.Iterations.{IsDue, IsOfRank, IsStillAt, with_over}
 
 -- ---- ranks
 
@@ -68,7 +47,7 @@ due_next start book after layer parcel claim still done (number, free, before, i
       still = record { alike = still.alike; closed = still.closed; begun = still.begun; ranks = still.ranks };
       of = (level, of, refl);
       free = ap (slice_get book.done) rank ∙ free.1;
-      others = λ r e. elim (at_set book.claimed claim.rank r e) [ inl same ↦ inr (same ∙ sym rank) | inr old ↦ inl (done r old) ];
+      others = λ r e. elim (true_cases book.claimed claim.rank r e) [ inl same ↦ inr (same ∙ sym rank) | inr old ↦ inl (done r old) ];
     })
 
 -- a rank that is due is one of the layer at work
@@ -94,9 +73,9 @@ pub done_claimed : (start book after : BookView) (layer : LayerView) (parcel : P
 done_claimed start book after layer parcel worker due is =
     subst (λ v. (r : ℕ) → get_or v.claimed r false ≡ true → IsDone v r) (sym is)
     (λ r e. elim (due.others r e) [
-      | inl old ↦ still_set book.done parcel.rank r old
+      | inl old ↦ true_kept book.done parcel.rank r old
       | inr same ↦ subst (λ j. get_or (set book.done parcel.rank true) j false ≡ true) (sym same)
-          (set_here book.done parcel.rank (slice_get_within book.done parcel.rank false due.free))
+          (get_or-set_same book.done parcel.rank true false (slice_get_within book.done parcel.rank false due.free))
     ])
 
 -- where its limit was passed the book is still at work on the layer
@@ -139,18 +118,10 @@ still_since book reopened after layer is still = record {
   ranks = still.ranks;
 }
 
--- over its limit
-pub finished_over : (book reopened after : BookView) (layer : LayerView) → reopened ≡ with_reopened book → IsStillAt reopened layer after → after.over ≡ true →
-    WorkAnswer book Over after
-finished_over book reopened after layer is still over =
-    (more_alike book reopened after (opened_alike book reopened is) still.alike, over, ap length (still.closed ∙ ap (λ v. v.closed) is))
+-- ---- a close
 
--- with the next layer closed
-pub finished_through : (book reopened done after : BookView) (layer : LayerView) → reopened ≡ with_reopened book → IsStillAt reopened layer done →
-    ((es : List Closed) × (after ≡ with_closed done es)) → WorkAnswer book Through after
-finished_through book reopened done after layer is still (es, closed) =
-    subst (λ v. WorkAnswer book Through v) (sym closed) (
-      more_alike book reopened done (opened_alike book reopened is) still.alike,
-      refl,
-      length-append done.closed (es ∷ []) ∙ omega (arith, ap length still.closed, ap (λ v. length v.closed) is),
-    )
+-- a close that was refused for its ranks: not all of them are done
+pub not_all_done : (v : BookView) → CloseRefused v NotAll → ¬ (AllDone v)
+not_all_done v (inl paused) all = absurd (false≢true (sym paused ∙ all.0))
+not_all_done v (inr (r, left)) all =
+    absurd (false≢true (sym (get_or_from_slice_get v.done r false false left) ∙ all.1 r (slice_get_within v.done r false left)))

@@ -9,7 +9,6 @@ pub mod Limits
 pub mod Looking
 pub mod NextLayers
 pub mod ReadingBack
-pub mod Rests
 pub mod Solved
 pub mod Solving
 pub mod Uniqueness

@@ -56,7 +56,8 @@ pub record PassesLimit (task : Task) (limit : ℕ) : Type 0 where
   pub passed : limit < total layers + length more
   pub unsolved : (ds : List Dir) (ps : List Push) → IsSolutionOf task ds ps → length layers ≤ length ps
 
--- no play solves the level within the cap, and positions is the number of positions of all its layers, at most the limit
+-- no play solves the level within the cap, and positions is the number of positions of all its layers, at most the
+-- limit
 abbrev pub HasNone : Task → ℕ → ℕ → Type 0
 HasNone task limit positions =
     ((ds : List Dir) (ps : List Push) → ¬ (IsSolutionOf task ds ps)) × HasInAll task positions × (positions ≤ limit)

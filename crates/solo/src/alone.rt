@@ -8,7 +8,7 @@ ghost use Rattle.solo.specs.Refusals.{SoloRefused};
 ghost use Rattle.solo.specs.inside.Iterations.{AreBetweenLayers, GoesOn};
 
 use crate::answer::{Answer, SolveFault};
-use crate::ranks::{Worked, begin_each, last_layer};
+use crate::ranks::{begin_each, close_rest, last_layer};
 use crate::search::Search;
 use grid::{Level, MAX_BOXES};
 use layers::{Book, Dealing, Problem};
@@ -98,10 +98,10 @@ fn iteration(
         return Ok(Some(answer));
     }
     begin_each(books, &layer)?;
-    let worked = search.finish_rest(books, &layer, 0)?;
+    let Some(_) = search.do_rest(books, &layer, 0)? else {
+        return Ok(Some(Answer::Limit));
+    };
+    close_rest(books)?;
     search.push(layer)?;
-    match worked {
-        Worked::Over => Ok(Some(Answer::Limit)),
-        Worked::Through => Ok(None),
-    }
+    Ok(None)
 }

@@ -25,5 +25,5 @@ pub use alone::solve_alone;
 pub use answer::{Answer, SolveFault};
 pub use goals::first_solved;
 pub use lead::moves_to;
-pub use ranks::{Worked, begin_each, close_ahead, last_layer};
+pub use ranks::{begin_each, close_ahead, close_rest, last_layer};
 pub use search::Search;

@@ -1,13 +1,11 @@
 //! The ranks of a layer in the books of a search. These functions fail only if out of memory.
-ghost use Rattle.std.specs.Prelude.{◌≡◌, ◌<◌, ℕ, List, Some, true, false, length, slice_get};
+ghost use Rattle.std.specs.Prelude.{◌≡◌, ◌<◌, ℕ, Some, false, length, slice_get};
 ghost use Rattle.std.specs.Prelude.{IfOk, MatchBool, OnErr, OnOk};
 ghost use Rattle.layers.specs.BookView.{BookView};
-ghost use Rattle.store.specs.Entries.{Closed};
-ghost use Rattle.layers.specs.Books.{AllDone, AreAllShares, HasBegun, IsAtWork, IsJoinOf, MayBegin};
-ghost use Rattle.layers.specs.Books.{with_begun, with_closed, with_parcel};
-ghost use Rattle.solo.specs.inside.Rests.{MayBeClosed, RestAnswer};
-ghost use Rattle.solo.specs.inside.Iterations.{HaveBegun, IsDoneBy, IsReopenedAt, IsStillAt, MayHaveBegun};
-ghost use Rattle.solo.specs.inside.Iterations.{WorkAnswer, with_over};
+ghost use Rattle.layers.specs.Books.{AllDone, AreAllShares, IsAtWork, IsJoinOf, MayBegin, with_begun, with_parcel};
+ghost use Rattle.solo.specs.inside.Rests.{IsClosedIfDone, MayBeClosed, MayBeClosedEach};
+ghost use Rattle.solo.specs.inside.Iterations.{HaveBegun, HaveChanged, IsDoneBy, IsReopenedAt, IsStillAt};
+ghost use Rattle.solo.specs.inside.Iterations.{MayHaveBegun, with_over};
 ghost use Rattle.solo.specs.inside.Together.{IsFull};
 
 use area::Scratch;
@@ -16,15 +14,6 @@ use layers::{
     BeginFault, Book, CloseFault, JoinFault, Layer, Parcel, Refusal, expand_over, expand_over_into,
 };
 use std::alloc::{AllocError, Global};
-
-/// How the ranks that were left of a layer ended.
-#[derive(Clone, Copy, PartialEq, Eq, Debug)]
-pub enum Worked {
-    /// Each rank is done, and the next layer is closed.
-    Through,
-    /// The limit is passed: a book is over, or all books together hold more positions.
-    Over,
-}
 
 /// The last closed layer of the books, which are all the shares in order. Its squares reuse `memory`.
 pub fn last_layer(alloc: Global, books: &[Book], memory: Vec<Square>) -> Result<Layer, AllocError>
@@ -62,38 +51,6 @@ fn begin(book: &mut Book, layer: &Layer) -> Result<(), AllocError>
         Err(BeginFault::OutOfMemory) => Err(AllocError),
         Err(_) => unreachable!(),
     }
-}
-
-// Does, as worker `worker`, all ranks of the last closed layer that are left, even claimed ones, and closes the next
-// layer, unless the book is over or has closed that layer already. After an error the book is still at work on the last
-// layer, perhaps with more of its ranks done. Only that worker gets credit for the ranks that are done here.
-pub(crate) fn finish(
-    book: &mut Book,
-    layer: &Layer,
-    scratch: &mut Scratch,
-    worker: u8,
-) -> Result<Worked, AllocError>
-    requires begun { book.old.begun ≡ true → HasBegun book.old layer.now }
-    requires worker { worker < book.old.workers }
-    requires room { scratch.old.size ≡ length layer.now.level.board.cells }
-    ensures worked { IfOk result (λ worked. RestAnswer book.old worked book.new) }
-    ensures err { OnErr result (IsStillAt book.old layer.now book.new) }
-    ensures credited { IsDoneBy worker book.old book.new }
-    ensures size { scratch.new.size ≡ scratch.old.size }
-{
-    if !book.has_begun() {
-        return Ok(Worked::Through);
-    }
-    book.tell();
-    layer.tell();
-    book.reopen();
-    let most = u64::from(book.limit());
-    if !do_ranks(book, layer, scratch, worker, most)? {
-        book.tell();
-        return Ok(Worked::Over);
-    }
-    close(book)?;
-    Ok(Worked::Through)
 }
 
 // Does each rank that is not done; none of these is claimed. Returns `false` if the book is over or holds more than
@@ -151,23 +108,34 @@ fn enter(book: &mut Book, worker: u8, parcel: &Parcel<'_>) -> Result<bool, Alloc
     }
 }
 
-/// Closes the next layer before [`Search::finish_rest`](crate::Search::finish_rest) does, if each rank is done.
-/// Otherwise, or if out of memory, the book stays unchanged.
+/// Closes the next layer before [`close_rest`] does, if each rank is done. Otherwise, or if out of memory, the book
+/// stays unchanged.
 pub fn close_ahead(book: &mut Book)
     ensures { MayBeClosed book.old book.new }
 {
     let _ = book.close();
 }
 
-// Closes the next layer; each rank is done.
+/// Closes the next layer in each book whose ranks are all done. The other books, among them those that have closed it
+/// already, stay unchanged. After an error some books have closed it, and the others are unchanged.
+pub fn close_rest(books: &mut [Book]) -> Result<(), AllocError>
+    ensures ok { OnOk result (HaveChanged IsClosedIfDone books.old books.new) }
+    ensures err { OnErr result (MayBeClosedEach books.old books.new) }
+{
+    for index in 0..books.len() {
+        close(&mut books[index])?;
+    }
+    Ok(())
+}
+
+// Closes the next layer, if each rank is done. Otherwise, or after an error, the book stays unchanged.
 fn close(book: &mut Book) -> Result<(), AllocError>
-    requires { AllDone book.old }
-    ensures ok { OnOk result ((es : List Closed) × (book.new ≡ with_closed book.old es)) }
+    ensures ok { OnOk result (IsClosedIfDone book.old book.new) }
     ensures err { OnErr result (book.new ≡ book.old) }
 {
     match book.close() {
         Ok(_) => Ok(()),
-        Err(CloseFault::NotAll) => unreachable!(),
+        Err(CloseFault::NotAll) => Ok(()),
         Err(CloseFault::OutOfMemory) => Err(AllocError),
     }
 }

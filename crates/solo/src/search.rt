@@ -12,15 +12,13 @@ ghost use Rattle.layers.specs.Holding.{all_held};
 ghost use Rattle.solo.specs.Answers.{HasNone, IsAnswer};
 ghost use Rattle.solo.specs.Leads.{IsFirstSolved};
 ghost use Rattle.solo.specs.declared.answer.Answer.TheVariants.{Limit};
-ghost use Rattle.solo.specs.inside.Rests.{RestAnswers};
 ghost use Rattle.solo.specs.inside.Searched.{IsNextLayer, IsExamined, new_search, with_layer};
 ghost use Rattle.solo.specs.inside.Together.{AreAllDone, AreStill, PassTogether};
-ghost use Rattle.solo.specs.inside.Iterations.{AreDoneBy, MayBeWorked};
+ghost use Rattle.solo.specs.inside.Iterations.{AreDoneBy};
 
 use crate::answer::Answer;
 use crate::goals::first_solved;
 use crate::lead::moves_back;
-use crate::ranks::{Worked, finish};
 use crate::rest::{do_rest_of, left_of};
 use area::Scratch;
 use grid::Square;
@@ -35,8 +33,8 @@ use std::sync::Arc;
 /// [`solve_alone`](crate::solve_alone) and the solver with workers drive it alike. It makes the books of layer 0
 /// ([`new_books`](Search::new_books)). Each iteration joins the layer that the books closed last and examines it
 /// ([`look`](Search::look)). If that gives no answer, the layer's ranks are done in the books
-/// ([`finish_rest`](Search::finish_rest)), which closes the next layer, and the search takes the examined one
-/// ([`push`](Search::push)). All calls fail only if out of memory.
+/// ([`do_rest`](Search::do_rest)), these close the next layer ([`close_rest`](crate::close_rest)), and the search takes
+/// the examined one ([`push`](Search::push)). All calls fail only if out of memory.
 #[derive(Drop)]
 pub struct Search<'p> {
     alloc: Global,
@@ -162,42 +160,10 @@ impl<'p> Search<'p> {
         })
     }
 
-    /// Does, as worker `worker`, all ranks of a layer that are left, even claimed ones, in each book that has begun it,
-    /// and then closes the next layer in this book. Books that have closed it already stay unchanged. Stops when a book
-    /// is over.
-    ///
-    /// After an error each book is unchanged, or still at work on the layer, perhaps with more of its ranks done, or
-    /// has closed the next one. Only that worker gets credit for the ranks that are done here.
-    pub fn finish_rest(
-        &mut self,
-        books: &mut [Book],
-        layer: &Layer,
-        worker: u8,
-    ) -> Result<Worked, AllocError>
-        requires level { layer.now.level ≡ self.old.task }
-        requires begun { (i : ℕ) (v : BookView) → slice_get books.old i ≡ Some v → v.begun ≡ true →
-            HasBegun v layer.now }
-        requires worker { (i : ℕ) (v : BookView) → slice_get books.old i ≡ Some v → worker < v.workers }
-        ensures worked { IfOk result (λ worked. RestAnswers books.old worked books.new) }
-        ensures err { OnErr result (MayBeWorked books.old layer.now books.new) }
-        ensures credited { AreDoneBy worker books.old books.new }
-        ensures same { self.new ≡ self.old }
-    {
-        let scratch = &mut self.scratch;
-        for index in 0..books.len() {
-            let worked = finish(&mut books[index], layer, scratch, worker)?;
-            books[index].tell();
-            match worked {
-                Worked::Through => (),
-                Worked::Over => return Ok(Worked::Over),
-            }
-        }
-        Ok(Worked::Through)
-    }
-
-    /// Does, as worker `worker`, the ranks of a layer that are left in each book, one book after the other, and closes
-    /// none. Stops and returns `None` if the limit is passed: one of the books is over, or all together hold more
-    /// positions. Otherwise each rank is done, and the result is the number of positions left up to the limit.
+    /// Does, as worker `worker`, the ranks of a layer that are left in each book, even claimed ones, one book after the
+    /// other, and closes none. Stops and returns `None` if the limit is passed: one of the books is over, or all
+    /// together hold more positions. Otherwise each rank is done, and the result is the number of positions left up to
+    /// the limit.
     ///
     /// After an error each book is still at work on the layer, perhaps with more of its ranks done. Only that worker
     /// gets credit for the ranks that are done here.

@@ -20,7 +20,7 @@ use Rattle.store.specs.Entering.{closed_entry, RiseByOrigin, IsSortedAppend}
 use Rattle.store.specs.FoundView.{IsFound, open_of, open_entry, origin_in, seen_of}
 use Rattle.store.specs.inside.Placing.{Row, rows_of, RowsRise, HaveAllPlaces, AreTargets, AreApart, AreAtTargets}
 use Rattle.store.proofs.lemmas.Closings.{moved, reordered}
-use Rattle.successors.proofs.lemmas.Lists.{at_map, map_at, set-at, set_elsewhere}
+use Rattle.successors.proofs.lemmas.Lists.{at_map, map_at, set_here, set_there}
 use Rattle.store.proofs.Tails.{entry_at, open_distinct, open_more, split}
 
 -- ---- lists by their places
@@ -295,7 +295,7 @@ one_target rows place targets row before at lt = record {
   far = λ i r i_lt r_at. elim (cases_eq r.1 row.1) [
     | inl same ↦ (place, row, ap (slice_get (set targets row.1 place)) same ∙ put (omega (arith, lt, before.long)), at, sym same)
     | inr other ↦ elim (cases_lt i place) [
-      | inl less ↦ (let w = before.far i r less r_at in (w.0, w.1, set_elsewhere targets row.1 r.1 place w.0 other w.2, w.3, w.4))
+      | inl less ↦ (let w = before.far i r less r_at in (w.0, w.1, set_there targets row.1 r.1 place other ∙ w.2, w.3, w.4))
       | inr more ↦ absurd (other (ap (λ (q : Row). q.1) (same_Some r row (sym r_at ∙
           ap (slice_get rows) (let e : i ≡ place = omega (arith, i_lt, more) in e) ∙ at))))
     ]
@@ -303,7 +303,7 @@ one_target rows place targets row before at lt = record {
 }
   where
     put : row.1 < length targets → slice_get (set targets row.1 place) row.1 ≡ Some place
-    put inside = let w = entry_at targets row.1 inside in set-at targets row.1 w.0 place w.1
+    put inside = set_here targets row.1 place inside
 
 pub all_targets : (rows : List Row) (place : ℕ) (targets : List ℕ) → HaveAllPlaces rows → AreTargetsSoFar rows place targets → length rows ≤ place →
     AreTargets rows targets

@@ -1,5 +1,5 @@
 -- Indices of positions among entries: what a look-up gives, and that indices stay while offers enter.
-use Rattle.std.proofs.Common.{◌≡◌, ℕ, zero, suc, ◌+◌, Bool, true, false, cond, ◌||◌, not, is_some, ltb, List, [], ◌∷◌, ◌++◌, map, position}
+use Rattle.std.proofs.Common.{◌≡◌, ℕ, zero, suc, ◌+◌, ◌<◌, Bool, true, false, cond, not, is_some, List, [], ◌∷◌, ◌++◌, map, position}
 use Rattle.std.proofs.Common.{Option, Some, refl, sym, ap, ◌∙◌, if◌then◌else◌, arith}
 use Rattle.std.proofs.lemmas.Iterator.Adapters.{position_from-zero}
 use Rattle.std.proofs.lemmas.List.{append-nil, append_assoc}
@@ -13,9 +13,9 @@ use Rattle.grid.specs.Board.{Scene, push_cmp}
 use Rattle.successors.proofs.lemmas.Lists.{at_before}
 use Rattle.store.specs.Entries.{Closed, Entry, Origin, lesser, origin_cmp, same_scene}
 use Rattle.store.specs.Entering.{closed_entry, offered}
-use Rattle.store.specs.FoundView.{IsFound, NoneExceed, all_let_in, keeps, let_in, open_of, seen_of}
+use Rattle.store.specs.FoundView.{IsFound, all_let_in, keeps, let_in, open_of, seen_of}
 use Rattle.store.specs.inside.Indices.{HasKeyAt}
-use Rattle.store.proofs.Lasts.{standing_kept, standing_less}
+use Rattle.store.proofs.Keeping.{standing_kept, standing_less}
 use Rattle.store.proofs.lemmas.Offers.{open_places, same_since, same_true}
 use Rattle.store.proofs.Tails.{split}
 
@@ -44,12 +44,10 @@ standing m place [] at = cc
 standing m zero (x ∷ es) at = (x, refl, same_since x.0 m (same_Some x.0 m at))
 standing m (suc place) (x ∷ es) at = standing m place es at
 
--- an offer of a position changes nothing if it is closed, or if the offer's origin does not come before the last one
-pub place_kept : (m : Scene) (o last : Origin Push) (start place : ℕ) (es : List Closed) → IsFound start es → NoneExceed (open_of start es) last →
-    HasKeyAt es place m → (late : Bool) → late ≡ not (is_lt (origin_cmp push_cmp o last)) → (ltb place start || late) ≡ true →
+-- an offer of a closed position changes nothing
+pub place_kept : (m : Scene) (o : Origin Push) (start place : ℕ) (es : List Closed) → HasKeyAt es place m → place < start →
     true ≡ keeps (seen_of start es) (open_of start es) m o
-place_kept m o last start place es found none at late is_late told =
-    let w = standing m place es at in standing_kept m o last start place es w.0 found none w.1 w.2 late is_late told
+place_kept m o start place es at lt = let w = standing m place es at in standing_kept m o start place es w.0 w.1 w.2 lt
 
 -- nor if the offer's origin does not come before its own
 pub place_less : (m : Scene) (o : Origin Push) (start place : ℕ) (es : List Closed) (k : Scene) (v : Option (Origin Push)) (less : Bool) → IsFound start es →

@@ -7,8 +7,8 @@ pub mod Strays
 pub mod Exchanging
 pub mod DealtOffers
 pub mod Bytes
-pub mod Lasts
 pub mod Digests
+pub mod Keeping
 pub mod Indices
 pub mod EntriesOf
 pub mod Finding

@@ -6,7 +6,7 @@ use Rattle.std.proofs.lemmas.Option.{same_Some, slice_get_within, get_or_from_sl
 use Rattle.std.specs.Prelude.{slice_get}
 use Rattle.std.specs.List.{swap}
 use Rattle.store.specs.inside.Placing.{AreApart}
-use Rattle.successors.proofs.lemmas.Lists.{set_elsewhere}
+use Rattle.successors.proofs.lemmas.Lists.{set_there}
 use Rattle.store.proofs.Tails.{entry_at}
 
 pub stray : ℕ → ℕ → ℕ
@@ -48,7 +48,7 @@ fewer ts a t at ne places =
     let u : ℕ = w.0 in
     let other : u ≢ t = λ (e : u ≡ t). ne (sym (places.apart a t t at (w.1 ∙ ap (λ (n : ℕ). Some n) e))) in
     let one = strays-set 0 ts a t u at in
-    let two = strays-set 0 (set ts a u) t u t (set_elsewhere ts a t u u ne w.1) in
+    let two = strays-set 0 (set ts a u) t u t (set_there ts a t u ne ∙ w.1) in
     let is : set (set ts a u) t t ≡ swap ts a t =
     (λ i. set (set ts a (sym (get_or_from_slice_get ts t u 0 w.1) i)) t (sym (get_or_from_slice_get ts a t 0 at) i)) ∙
     swap_is ts a t 0 (slice_get_within ts a t at) inside in

@@ -4,5 +4,4 @@ pub mod Placing
 pub mod Offers
 pub mod Copies
 pub mod KeyRows
-pub mod FoundUpTo
 pub mod Indices

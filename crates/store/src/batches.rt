@@ -3,10 +3,9 @@
 //! cache.
 ghost use Rattle.std.specs.Prelude.{◌≡◌, ◌+◌, ◌<◌, ◌≤◌, length, true};
 ghost use Rattle.indexmap.specs.IndexMap.{spare};
-ghost use Rattle.store.specs.inside.FoundUpTo.{IsFoundUpTo};
 ghost use Rattle.store.specs.inside.KeyRows.{AreDigests, key_digest};
 ghost use Rattle.store.specs.inside.Indices.{AreIndicesOf, IsIndexOf};
-ghost use Rattle.store.specs.FoundView.{all_let_in, keeps, let_in, open_of, seen_of};
+ghost use Rattle.store.specs.FoundView.{IsFound, all_let_in, keeps, let_in, open_of, seen_of};
 
 use crate::entering::enter;
 use crate::key::Key;
@@ -25,13 +24,12 @@ const NOWHERE: usize = usize::MAX;
 pub(crate) fn enter_in_batches<const N: usize, const M: usize>(
     table: &mut IndexMap<Key<N, M>, ClosedOrigin>,
     start: usize,
-    last: &mut Origin,
     offers: &[(Key<N, M>, Origin)],
 )
     requires width { (N ≤ MAX_BOXES + 1) × (M ≤ MAX_BOXES + 1) }
     requires capacity { length offers.now ≤ spare table.old }
-    requires found { IsFoundUpTo start table.old.entries last.old }
-    ensures found { IsFoundUpTo start table.new.entries last.new }
+    requires found { IsFound start table.old.entries }
+    ensures found { IsFound start table.new.entries }
     ensures seen { seen_of start table.new.entries ≡ seen_of start table.old.entries }
     ensures waiting { open_of start table.new.entries ≡
         all_let_in (seen_of start table.old.entries) (open_of start table.old.entries) offers.now }
@@ -40,7 +38,7 @@ pub(crate) fn enter_in_batches<const N: usize, const M: usize>(
     let mut rest = offers;
     while !rest.is_empty() {
         let count = rest.len().min(BATCH);
-        enter_batch(table, start, last, &rest[..count]);
+        enter_batch(table, start, &rest[..count]);
         rest = &rest[count..];
     }
 }
@@ -49,14 +47,13 @@ pub(crate) fn enter_in_batches<const N: usize, const M: usize>(
 fn enter_batch<const N: usize, const M: usize>(
     table: &mut IndexMap<Key<N, M>, ClosedOrigin>,
     start: usize,
-    last: &mut Origin,
     offers: &[(Key<N, M>, Origin)],
 )
     requires width { (N ≤ MAX_BOXES + 1) × (M ≤ MAX_BOXES + 1) }
     requires few { length offers.now ≤ BATCH }
     requires capacity { length offers.now ≤ spare table.old }
-    requires found { IsFoundUpTo start table.old.entries last.old }
-    ensures found { IsFoundUpTo start table.new.entries last.new }
+    requires found { IsFound start table.old.entries }
+    ensures found { IsFound start table.new.entries }
     ensures seen { seen_of start table.new.entries ≡ seen_of start table.old.entries }
     ensures waiting { open_of start table.new.entries ≡
         all_let_in (seen_of start table.old.entries) (open_of start table.old.entries) offers.now }
@@ -66,7 +63,7 @@ fn enter_batch<const N: usize, const M: usize>(
     digest_all(offers, &mut digests);
     let mut indices = [NOWHERE; BATCH];
     look_up(table, offers, &digests, &mut indices);
-    enter_each(table, start, last, offers, &indices);
+    enter_each(table, start, offers, &indices);
 }
 
 // Writes the digests of the offers' keys.
@@ -121,22 +118,21 @@ fn index_of<const N: usize, const M: usize>(
 fn enter_each<const N: usize, const M: usize>(
     table: &mut IndexMap<Key<N, M>, ClosedOrigin>,
     start: usize,
-    last: &mut Origin,
     offers: &[(Key<N, M>, Origin)],
     indices: &[usize],
 )
     requires width { (N ≤ MAX_BOXES + 1) × (M ≤ MAX_BOXES + 1) }
     requires indices { AreIndicesOf table.old.entries offers.now indices.now }
     requires capacity { length offers.now ≤ spare table.old }
-    requires found { IsFoundUpTo start table.old.entries last.old }
-    ensures found { IsFoundUpTo start table.new.entries last.new }
+    requires found { IsFound start table.old.entries }
+    ensures found { IsFound start table.new.entries }
     ensures seen { seen_of start table.new.entries ≡ seen_of start table.old.entries }
     ensures waiting { open_of start table.new.entries ≡
         all_let_in (seen_of start table.old.entries) (open_of start table.old.entries) offers.now }
     ensures capacity { spare table.old ≤ spare table.new + length offers.now }
 {
     for (nth, offer) in offers.iter().enumerate() {
-        enter_at(table, start, last, offer, indices[nth]);
+        enter_at(table, start, offer, indices[nth]);
     }
 }
 
@@ -145,24 +141,23 @@ fn enter_each<const N: usize, const M: usize>(
 fn enter_at<const N: usize, const M: usize>(
     table: &mut IndexMap<Key<N, M>, ClosedOrigin>,
     start: usize,
-    last: &mut Origin,
     offer: &(Key<N, M>, Origin),
     index: usize,
 )
     requires width { (N ≤ MAX_BOXES + 1) × (M ≤ MAX_BOXES + 1) }
     requires index { IsIndexOf table.old.entries index offer.now.0 }
     requires capacity { 0 < spare table.old }
-    requires found { IsFoundUpTo start table.old.entries last.old }
-    ensures found { IsFoundUpTo start table.new.entries last.new }
+    requires found { IsFound start table.old.entries }
+    ensures found { IsFound start table.new.entries }
     ensures seen { seen_of start table.new.entries ≡ seen_of start table.old.entries }
     ensures waiting { open_of start table.new.entries ≡
         let_in (seen_of start table.old.entries) (open_of start table.old.entries) offer.now }
     ensures capacity { spare table.old ≤ spare table.new + 1 }
 {
-    if changes_nothing(table, start, *last, offer, index) {
+    if changes_nothing(table, start, offer, index) {
         return;
     }
-    enter(table, start, last, &offer.0, offer.1);
+    enter(table, start, &offer.0, offer.1);
 }
 
 // Whether the index shows that an offer changes nothing: it is that of a closed position, or of an open one whose
@@ -171,21 +166,19 @@ fn enter_at<const N: usize, const M: usize>(
 fn changes_nothing<const N: usize, const M: usize>(
     table: &IndexMap<Key<N, M>, ClosedOrigin>,
     start: usize,
-    last: Origin,
     offer: &(Key<N, M>, Origin),
     index: usize,
 ) -> bool
     requires width { (N ≤ MAX_BOXES + 1) × (M ≤ MAX_BOXES + 1) }
     requires index { IsIndexOf table.now.entries index offer.now.0 }
-    requires found { IsFoundUpTo start table.now.entries last }
+    requires found { IsFound start table.now.entries }
     ensures { result ≡ true →
         true ≡ keeps (seen_of start table.now.entries) (open_of start table.now.entries) offer.now.0 offer.now.1 }
 {
     if index == NOWHERE {
         return false;
     }
-    let late = !offer.1.is_before(last);
-    if (index < start) | late {
+    if index < start {
         return true;
     }
     let Some((_, known)) = table.get_index(index) else {

@@ -1,14 +1,13 @@
 //! Enters offers into the open positions of a map, which follow the closed ones.
-ghost use Rattle.std.specs.Prelude.{◌≡◌, ℕ, ◌+◌, ◌<◌, ◌≤◌, ◌&&◌, ◌||◌, [], IsTrue, Some, false, not, is_some, length};
+ghost use Rattle.std.specs.Prelude.{◌≡◌, ℕ, ◌+◌, ◌<◌, ◌≤◌, ◌&&◌, ◌||◌, [], not, is_some, length};
 ghost use Rattle.std.specs.Prelude.{fold};
-ghost use Rattle.indexmap.specs.IndexMap.{insert_entry, spare};
+ghost use Rattle.indexmap.specs.IndexMap.{spare};
 ghost use Rattle.std.specs.List.{list_any};
 ghost use Rattle.store.specs.Entries.{origin_of, same_scene};
 ghost use Rattle.successors.specs.Shares.{share_of};
 ghost use Rattle.store.specs.Entering.{is_wanted_in, entered};
 ghost use Rattle.store.specs.inside.KeyRows.{AllSuit, Suits};
-ghost use Rattle.store.specs.inside.FoundUpTo.{IsFoundUpTo};
-ghost use Rattle.store.specs.FoundView.{IsFound, StaysFound, all_let_in, keeps, let_in, open_of, seen_of};
+ghost use Rattle.store.specs.FoundView.{IsFound, StaysFound, all_let_in, let_in, open_of, seen_of};
 
 use crate::batches::enter_in_batches;
 use crate::key::Key;
@@ -18,72 +17,41 @@ use indexmap::IndexMap;
 use indexmap::map::Entry;
 use successors::{Successor, share_of};
 
-// Inserts an offer into the map by one look-up, and returns whether it changes nothing. It changes nothing if the
-// position is closed, that is, before `start`, or is open with an origin that is no greater. No origin of an open
-// position comes after `last`, so most look-ups read no origin.
-#[inline(always)]
-fn is_kept<const N: usize, const M: usize>(
-    table: &mut IndexMap<Key<N, M>, ClosedOrigin>,
-    start: usize,
-    last: Origin,
-    key: &Key<N, M>,
-    origin: Origin,
-) -> bool
-    requires width { (N ≤ MAX_BOXES + 1) × (M ≤ MAX_BOXES + 1) }
-    requires capacity { 0 < spare table.old }
-    requires found { IsFoundUpTo start table.old.entries last }
-    ensures kept { result ≡ keeps (seen_of start table.old.entries) (open_of start table.old.entries) key.now origin }
-    ensures same { IsTrue result → table.new.entries ≡ table.old.entries }
-    ensures inserted { result ≡ false → table.new.entries ≡ insert_entry same_scene table.old.entries key.now
-        (Some origin) }
-    ensures capacity { spare table.old ≤ spare table.new + 1 }
-{
-    match table.entry(key.copy()) {
-        Ok(Entry::Vacant(entry)) => {
-            let _ = entry.insert_entry(ClosedOrigin::of(Some(origin)));
-            false
-        }
-        Ok(Entry::Occupied(mut entry)) => {
-            let known = entry.get();
-            let index = entry.index();
-            if index < start {
-                return true;
-            }
-            if !origin.is_before(last) {
-                return true;
-            }
-            if !known.exceeds(origin) {
-                return true;
-            }
-            let _ = entry.insert(ClosedOrigin::of(Some(origin)));
-            false
-        }
-        Err(_) => unreachable!(),
-    }
-}
-
-/// Enters an offer: an open position keeps the lesser origin, and a new one is appended.
+/// Enters an offer by one look-up: an open position keeps the lesser origin, and a new one is appended. An offer of a
+/// closed position, that is, of one before `start`, changes nothing.
 #[inline(always)]
 pub(crate) fn enter<const N: usize, const M: usize>(
     table: &mut IndexMap<Key<N, M>, ClosedOrigin>,
     start: usize,
-    last: &mut Origin,
     key: &Key<N, M>,
     origin: Origin,
 )
     requires width { (N ≤ MAX_BOXES + 1) × (M ≤ MAX_BOXES + 1) }
     requires capacity { 0 < spare table.old }
-    requires found { IsFoundUpTo start table.old.entries last.old }
-    ensures found { IsFoundUpTo start table.new.entries last.new }
+    requires found { IsFound start table.old.entries }
+    ensures found { IsFound start table.new.entries }
     ensures seen { seen_of start table.new.entries ≡ seen_of start table.old.entries }
     ensures waiting { open_of start table.new.entries ≡
         let_in (seen_of start table.old.entries) (open_of start table.old.entries) (key.now, origin) }
     ensures capacity { spare table.old ≤ spare table.new + 1 }
 {
-    if is_kept(table, start, *last, key, origin) {
-        return;
+    match table.entry(key.copy()) {
+        Ok(Entry::Vacant(entry)) => {
+            let _ = entry.insert_entry(ClosedOrigin::of(Some(origin)));
+        }
+        Ok(Entry::Occupied(mut entry)) => {
+            let known = entry.get();
+            let index = entry.index();
+            if index < start {
+                return;
+            }
+            if !known.exceeds(origin) {
+                return;
+            }
+            let _ = entry.insert(ClosedOrigin::of(Some(origin)));
+        }
+        Err(_) => unreachable!(),
     }
-    *last = last.later(origin);
 }
 
 /// Enters all pending offers into the map. Contracts show pending offers as entered, so the positions found stay the
@@ -91,17 +59,16 @@ pub(crate) fn enter<const N: usize, const M: usize>(
 pub(crate) fn enter_all<const N: usize, const M: usize>(
     table: &mut IndexMap<Key<N, M>, ClosedOrigin>,
     start: usize,
-    last: &mut Origin,
     pending: &mut Vec<(Key<N, M>, Origin)>,
 )
     requires width { (N ≤ MAX_BOXES + 1) × (M ≤ MAX_BOXES + 1) }
     requires capacity { length pending.old.items ≤ spare table.old }
-    requires found { IsFoundUpTo start table.old.entries last.old }
-    ensures found { IsFoundUpTo start table.new.entries last.new }
+    requires found { IsFound start table.old.entries }
+    ensures found { IsFound start table.new.entries }
     ensures same { StaysFound start table.old.entries pending.old.items table.new.entries [] }
     ensures empty { pending.new.items ≡ [] }
 {
-    enter_in_batches(table, start, last, pending.as_slice());
+    enter_in_batches(table, start, pending.as_slice());
     pending.clear();
 }
 

@@ -1,6 +1,6 @@
 //! Origins of positions in one word each, which keeps books and layers small.
-ghost use Rattle.std.specs.Prelude.{◌≡◌, ◌<◌, None, Some, false};
-ghost use Rattle.std.specs.Ordering.{is_gt, is_lt};
+ghost use Rattle.std.specs.Prelude.{◌≡◌, ◌<◌, None, Some};
+ghost use Rattle.std.specs.Ordering.{is_lt};
 ghost use Rattle.grid.specs.Board.{push_cmp, dir_number};
 ghost use Rattle.grid.specs.declared.square.Push.{Push};
 ghost use Rattle.store.specs.FoundView.{origin_in};
@@ -95,18 +95,6 @@ impl Origin {
         ensures { result ≡ is_lt (origin_cmp push_cmp self other) }
     {
         self.0 < other.0
-    }
-
-    /// The later of two origins.
-    #[tactic(auto, using(crate::proofs::Lasts::itself, crate::proofs::Lasts::less_least, crate::proofs::Lasts::other_least))]
-    pub(crate) fn later(self, other: Origin) -> Origin
-        ensures this { is_gt (origin_cmp push_cmp self result) ≡ false }
-        ensures that { is_gt (origin_cmp push_cmp other result) ≡ false }
-    {
-        if self.is_before(other) {
-            return other;
-        }
-        self
     }
 }
 

@@ -5,8 +5,7 @@ ghost use Rattle.indexmap.specs.IndexMap.{spare};
 ghost use Rattle.store.specs.inside.Offers.{offer_in, offers_at};
 ghost use Rattle.successors.specs.inside.Sums.{AreSums, scene_sum};
 ghost use Rattle.store.specs.inside.KeyRows.{AllSuit, Suits};
-ghost use Rattle.store.specs.inside.FoundUpTo.{IsFoundUpTo};
-ghost use Rattle.store.specs.FoundView.{StaysFound, offer_of, offers_of};
+ghost use Rattle.store.specs.FoundView.{IsFound, StaysFound, offer_of, offers_of};
 
 use crate::batches::BATCH;
 use crate::entering::enter_all;
@@ -40,21 +39,20 @@ pub fn most_pending(worker: u8, workers: u8, share: u8, shares: u8) -> usize
 pub(crate) fn reserve<const N: usize, const M: usize>(
     table: &mut IndexMap<Key<N, M>, ClosedOrigin>,
     start: usize,
-    last: &mut Origin,
     pending: &mut Vec<(Key<N, M>, Origin)>,
     most: usize,
     successors: &[Successor],
 ) -> Result<(), AllocError>
     requires width { (N ≤ MAX_BOXES + 1) × (M ≤ MAX_BOXES + 1) }
     requires capacity { length pending.old.items ≤ spare table.old }
-    requires found { IsFoundUpTo start table.old.entries last.old }
-    ensures found { IsFoundUpTo start table.new.entries last.new }
+    requires found { IsFound start table.old.entries }
+    ensures found { IsFound start table.new.entries }
     ensures same { StaysFound start table.old.entries pending.old.items table.new.entries pending.new.items }
     ensures capacity { length pending.new.items ≤ spare table.new }
     ensures ok { OnOk result ((length pending.new.items + length successors.now ≤ spare table.new) ×
         (vec_len pending.new + length successors.now ≤ vec_capacity pending.new)) }
 {
-    enter_if_full(table, start, last, pending, most);
+    enter_if_full(table, start, pending, most);
     let more = successors.len();
     table.reserve(pending.len() + more)?;
     pending.reserve(more)
@@ -64,19 +62,18 @@ pub(crate) fn reserve<const N: usize, const M: usize>(
 fn enter_if_full<const N: usize, const M: usize>(
     table: &mut IndexMap<Key<N, M>, ClosedOrigin>,
     start: usize,
-    last: &mut Origin,
     pending: &mut Vec<(Key<N, M>, Origin)>,
     most: usize,
 )
     requires width { (N ≤ MAX_BOXES + 1) × (M ≤ MAX_BOXES + 1) }
     requires capacity { length pending.old.items ≤ spare table.old }
-    requires found { IsFoundUpTo start table.old.entries last.old }
-    ensures found { IsFoundUpTo start table.new.entries last.new }
+    requires found { IsFound start table.old.entries }
+    ensures found { IsFound start table.new.entries }
     ensures same { StaysFound start table.old.entries pending.old.items table.new.entries pending.new.items }
     ensures capacity { length pending.new.items ≤ spare table.new }
 {
     if pending.len() >= most {
-        enter_all(table, start, last, pending);
+        enter_all(table, start, pending);
     }
 }
 

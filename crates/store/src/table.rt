@@ -28,8 +28,6 @@ pub(crate) struct PositionTable<const N: usize, const M: usize> {
     table: IndexMap<Key<N, M>, ClosedOrigin>,
     // the index of the first open position
     start: usize,
-    // no origin of an open position comes after this one
-    last: Origin,
     boxes: usize,
     squares: usize,
 }
@@ -37,8 +35,7 @@ pub(crate) struct PositionTable<const N: usize, const M: usize> {
 impl<const N: usize, const M: usize> Model for PositionTable<N, M> {
     ghost use Rattle.std.specs.Prelude.{◌+◌, ◌≤◌, length};
     ghost use Rattle.indexmap.specs.IndexMap.{spare};
-    ghost use Rattle.store.specs.FoundView.{FoundView, found_view};
-    ghost use Rattle.store.specs.inside.FoundUpTo.{IsFoundUpTo};
+    ghost use Rattle.store.specs.FoundView.{FoundView, IsFound, found_view};
     ghost use Rattle.store.specs.inside.KeyRows.{SuitsLevel};
 
     ghost Value = { FoundView };
@@ -49,13 +46,13 @@ impl<const N: usize, const M: usize> Model for PositionTable<N, M> {
 
     ghost invariant = { λ a. ((N ≤ MAX_BOXES + 1) × (M ≤ MAX_BOXES + 1))
         × SuitsLevel N M a.boxes a.squares
-        × IsFoundUpTo a.start a.table.entries a.last
+        × IsFound a.start a.table.entries
         × (length a.pending.items ≤ spare a.table) };
 }
 
 impl<const N: usize, const M: usize> PositionTable<N, M> {
     /// Starts with one closed position or none. Fails only if out of memory.
-    #[tactic(auto, using(crate::proofs::Lasts::none_open, crate::proofs::Bytes::suits))]
+    #[tactic(auto, using(crate::proofs::Bytes::suits))]
     pub(crate) fn of(
         alloc: Global,
         boxes: usize,
@@ -85,7 +82,6 @@ impl<const N: usize, const M: usize> PositionTable<N, M> {
             squares,
             table,
             start,
-            last: Origin::lowest(),
             pending: Vec::new(alloc),
         })
     }
@@ -173,8 +169,7 @@ impl<const N: usize, const M: usize> PositionTable<N, M> {
         if self.pending.len() + successors.len() <= left {
             return false;
         }
-        let last = &mut self.last;
-        enter_all(&mut self.table, self.start, last, &mut self.pending);
+        enter_all(&mut self.table, self.start, &mut self.pending);
         let left = limit - self.table.len();
         count_new(&self.table, self.start, share, shares, successors) > left
     }
@@ -198,7 +193,6 @@ impl<const N: usize, const M: usize> PositionTable<N, M> {
         reserve(
             &mut self.table,
             self.start,
-            &mut self.last,
             &mut self.pending,
             most,
             successors,
@@ -212,8 +206,7 @@ impl<const N: usize, const M: usize> PositionTable<N, M> {
         ensures count { result ≡ length self.old.seen + length self.old.waiting }
         ensures same { self.new ≡ self.old }
     {
-        let pending = &mut self.pending;
-        enter_all(&mut self.table, self.start, &mut self.last, pending);
+        enter_all(&mut self.table, self.start, &mut self.pending);
         self.table.len()
     }
 
@@ -224,8 +217,7 @@ impl<const N: usize, const M: usize> PositionTable<N, M> {
         if self.pending.len() < least {
             return false;
         }
-        let pending = &mut self.pending;
-        enter_all(&mut self.table, self.start, &mut self.last, pending);
+        enter_all(&mut self.table, self.start, &mut self.pending);
         true
     }
 
@@ -237,7 +229,6 @@ impl<const N: usize, const M: usize> PositionTable<N, M> {
     }
 
     /// Closes the open positions in the order of their origins. Fails only if out of memory, and then changes nothing.
-    #[tactic(auto, using(crate::proofs::Lasts::none_open))]
     pub(crate) fn close(&mut self) -> Result<(), AllocError>
         ensures boxes { self.new.boxes ≡ self.old.boxes }
         ensures squares { self.new.squares ≡ self.old.squares }
@@ -246,10 +237,9 @@ impl<const N: usize, const M: usize> PositionTable<N, M> {
         ensures err { OnErr result (self.new ≡ self.old) }
     {
         let start = self.start;
-        enter_all(&mut self.table, start, &mut self.last, &mut self.pending);
+        enter_all(&mut self.table, start, &mut self.pending);
         arrange(&mut self.table, start)?;
         self.start = self.table.len();
-        self.last = Origin::lowest();
         Ok(())
     }
 }

@@ -9,14 +9,7 @@ use Rattle.std.specs.Prelude.{slice_get}
 use Rattle.std.specs.List.{swap}
 use Rattle.successors.specs.declared.parcel.Successor.{Successor}
 use Rattle.successors.specs.inside.Sums.{AreSums, scene_sum}
-use Rattle.successors.proofs.lemmas.Lists.{take_at, at_take}
-
-at_set_later : {A : Type 0} (xs : List A) (i j : ℕ) (a : A) → i < j → slice_get (set xs i a) j ≡ slice_get xs j
-at_set_later [] i j a lt = refl
-at_set_later (x ∷ xs) zero zero a lt = absurd (omega (arith, lt))
-at_set_later (x ∷ xs) zero (suc j) a lt = refl
-at_set_later (x ∷ xs) (suc i) zero a lt = absurd (omega (arith, lt))
-at_set_later (x ∷ xs) (suc i) (suc j) a lt = at_set_later xs i j a (omega (arith, lt))
+use Rattle.successors.proofs.lemmas.Lists.{take_at, at_take, set_there, map_at}
 
 module _ {A : Type 0} (now : List A) (front place : ℕ) (s : A) (order : front ≤ place)
     (here : slice_get now place ≡ Some s) where
@@ -43,17 +36,10 @@ module _ {A : Type 0} (now : List A) (front place : ℕ) (s : A) (order : front 
   -- and what is behind the place stays
   pub later_same : (i : ℕ) → place < i → slice_get (swap now front place) i ≡ slice_get now i
   later_same i lt = ap (λ xs. slice_get xs i) stores
-      ∙ at_set_later (set now front s) place i (get_or now front s) lt
-      ∙ at_set_later now front i s (omega (arith, lt, order))
+      ∙ set_there (set now front s) place i (get_or now front s) (λ e. omega (arith, e, lt))
+      ∙ set_there now front i s (λ e. omega (arith, e, lt, order))
 
 -- ---- the sums
-
-map_at : (ss : List Successor) (i : ℕ) (s : Successor) → slice_get ss i ≡ Some s
-    → slice_get (map (λ (t : Successor). scene_sum t.position) ss) i ≡
-    Some (scene_sum s.position)
-map_at [] i s at = cc
-map_at (t ∷ ss) zero s at = ap (λ (u : Successor). Some (scene_sum u.position)) (same_Some t s at)
-map_at (t ∷ ss) (suc i) s at = map_at ss i s at
 
 -- beside each of the first so many successors lies its sum
 pub sum_at : (count : ℕ) (ss : List Successor) (sums : List ℕ) → AreSums (take count ss) (take count sums)
@@ -61,7 +47,8 @@ pub sum_at : (count : ℕ) (ss : List Successor) (sums : List ℕ) → AreSums (
     → slice_get ss place ≡ Some s → slice_get sums place ≡ Some (scene_sum s.position)
 sum_at count ss sums told place s lt at =
     (take_at sums count place (scene_sum s.position) (ap (λ xs. slice_get xs place) told
-    ∙ map_at (take count ss) place s (at_take ss count place s lt at))).0
+    ∙ map_at (λ (t : Successor). scene_sum t.position) (take count ss) place s
+    (at_take ss count place s lt at))).0
 
 -- the sums of those in front came with them; from a place on they are as they were
 pub record AreBrought (now : List Successor) (before sums : List ℕ) (front place : ℕ) : Type 0 where

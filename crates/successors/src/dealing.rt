@@ -24,7 +24,7 @@ pub(crate) struct Deal {
 }
 
 impl Deal {
-    /// Nothing is dealt.
+    /// A deal of no successors to no shares.
     pub(crate) fn none() -> Deal
         ensures { result.shares ≡ 0 }
     {

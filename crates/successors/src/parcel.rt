@@ -74,7 +74,7 @@ pub struct Parcel<'a> {
     pub(crate) count: usize,
     // how the successors are dealt to shares, if they are
     pub(crate) deal: Deal,
-    // comes last, since most of its slots are unused: what is read of a parcel lies close together
+    // the last field, since most of its slots are unused, so that the fields that are read lie close together
     pub(crate) buffers: Buffers,
 }
 

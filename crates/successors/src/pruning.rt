@@ -69,7 +69,7 @@ fn pick(bound: &Bound, most: u32, slots: &mut [Successor], sums: &mut [u32], cou
     kept
 }
 
-// Swaps a successor and its sum with those at a place that is not behind them.
+// Swaps the successors, and the sums, of two places; `front` is not behind `place`.
 fn bring(slots: &mut [Successor], sums: &mut [u32], front: usize, place: usize)
     requires order { front ≤ place }
     requires slots { place < length slots.old }

@@ -6,7 +6,7 @@ use Rattle.grid.specs.declared.moves.Letter.{Letter}
 use Rattle.grid.specs.Board.{Board, next, dir_number}
 use Rattle.area.specs.LeastWalks.{walk_letters}
 
--- the square next to q in the direction has a mark one less
+-- the mark of the square next to q in the direction is one less than the mark of q
 abbrev pub IsDown : Board → (ℕ → ℕ) → ℕ → Dir → Type 0
 IsDown board mark q d = suc (mark (next board q d)) ≡ mark q
 

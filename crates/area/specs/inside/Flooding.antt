@@ -31,7 +31,7 @@ pub record PassesOn (test : ℕ → Bool) (by mask : ℕ) : Type 0 where
   pub on_right : PassesUp test 1 mask
   pub on_up : PassesDown test by mask
 
--- what is added to a word: no 1 is lost, and whatever passes on as said stays true of each 1
+-- a word that has grown: no 1 is lost, and what is true of each old 1 and passes on is true of each new 1
 pub record IsGrown (old new : ℕ) (Passes : (ℕ → Bool) → Type 0) : Type 0 where
   pub kept : (j : ℕ) → word_bit old j ≡ true → word_bit new j ≡ true
   pub most : old ≤ new

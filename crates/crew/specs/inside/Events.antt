@@ -55,7 +55,7 @@ pub record IsCutOff (may_answer : ℕ → Bool → Bool) (most nth after : ℕ) 
   pub few : events ≤ most
   pub until : GoesOnUntil may_answer nth events after end
 
--- a worker drew and then ended, and was not drained: its events are the ranks that its hand has drawn since
+-- a worker drew ranks and then ended, but not as drained: it had one event for each rank that `later` has beyond `hand`
 pub record DrawsUntil (may_answer : ℕ → Bool → Bool) (hand : Hand) (nth : ℕ) (later : Hand) (after : ℕ) (end : End) :
     Type 0 where
   pub drawn : ℕ

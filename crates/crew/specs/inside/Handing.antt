@@ -8,8 +8,8 @@ use Rattle.crew.specs.Work.{IsOwn, HandEnds, after_end}
 use Rattle.crew.specs.declared.end.End.{End}
 use Rattle.crew.specs.declared.event.Event.{Event}
 
--- the answer to the parcel, and the book after it from the book before: a book of the worker's own accepts the parcel,
--- an event of this worker and the parcel's rank; or the answer ends the worker
+-- the answer to a parcel, with the book before and after it: the worker's own book accepts the parcel, and the event
+-- has this worker and the parcel's rank; or the answer ends the worker
 abbrev pub HandsBack : LayerView → ℕ → ℕ → ParcelView → BookView → Result Event End → BookView → Type 0
 HandsBack layer workers worker parcel before (Ok event) after =
     IsOwn layer workers worker before × MayEnter before parcel × (after ≡ with_parcel before worker parcel)

@@ -3,6 +3,7 @@ use Rattle.std.proofs.Common.{◌≡◌, ℕ, suc, ◌-◌, ◌<◌, ◌≤◌, 
 use Rattle.std.proofs.Common.{refl, sym, ap, subst, ◌∙◌, arith}
 use Rattle.std.proofs.lemmas.Bool.{true≢false}
 use Rattle.std.proofs.lemmas.List.{length-append, length-set, length-replicate, get_or-set_same, length-map}
+use Rattle.std.proofs.Math.Seq.{take-append_seam}
 use Rattle.std.proofs.lemmas.Option.{same_Some, none-some, slice_get_within, get_or_from_slice_get}
 use Rattle.std.specs.Prelude.{slice_get}
 use Rattle.std.specs.declared.cmp.Ordering.{Ordering}
@@ -31,7 +32,7 @@ use Rattle.layers.proofs.lemmas.Layers.{layer_unique, recut}
 use Rattle.layers.proofs.Open.{reoffered, closed_next}
 use Rattle.layers.proofs.lemmas.Orders.{nat_cmp_equal}
 use Rattle.layers.proofs.lemmas.Books.{level_laws, one_successor, whole_layer, whole_layers, all_open, all_distinct, all_each, begun-since, open-distance}
-use Rattle.layers.proofs.lemmas.Books.{true_kept, true_cases, none_marked, none_counted, take_whole, total-push, total-take_more, read_push, layers_same}
+use Rattle.layers.proofs.lemmas.Books.{true_kept, true_cases, none_marked, none_counted, total-push, total-take_more, read_push, layers_same}
 use Rattle.layers.proofs.lemmas.Books.{get_or_same}
 
 -- ---- begin
@@ -81,7 +82,7 @@ lawful_begin v layer book whole may =
           book.tallies.1,
           none_counted (length layer.places),
           ap (count_by (λ b. b)) not.2,
-          ap total (ap (λ k. take k (book.wholes ++ layer.places ∷ [])) (sym not.0) ∙ take_whole book.wholes (layer.places ∷ [])),
+          ap total (ap (λ k. take k (book.wholes ++ layer.places ∷ [])) (sym not.0) ∙ take-append_seam book.wholes (layer.places ∷ [])),
           ap total (take_short book.wholes (last_layer v) (omega (arith, not.0))),
         ),
       );

@@ -253,10 +253,6 @@ pub none_counted : (n : ℕ) → count_by (λ b. b) (replicate n false) ≡ 0
 none_counted zero = refl
 none_counted (suc n) = omega (arith, sum_by_first (λ c. cond c 1 0) false (replicate n false), none_counted n)
 
-pub take_whole : {A : Type 0} (xs ys : List A) → take (length xs) (xs ++ ys) ≡ xs
-take_whole [] ys = refl
-take_whole (x ∷ xs) ys = ap (λ zs. x ∷ zs) (take_whole xs ys)
-
 pub total-push : {A : Type 0} (xss : List (List A)) (xs : List A) → total (xss ++ xs ∷ []) ≡ total xss + length xs
 total-push [] xs = omega arith
 total-push (ys ∷ xss) xs = omega (arith, sum_by_first length ys (xss ++ xs ∷ []), sum_by_first length ys xss, total-push xss xs)

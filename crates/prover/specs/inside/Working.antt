@@ -172,7 +172,7 @@ pub record IsExpandable (board : Board) (from : Expanded) : Type 0 where
   pub fits : FitsLevel board from.position
   pub few : suc from.pushes < 2 ^ 32
 
--- the expansion has opened the position
+-- the position is one of those that the expansion opened
 abbrev pub IsOpenedPosition : List Opened → Scene → Type 0
 IsOpenedPosition opened t = (i : ℕ) × (o : Opened) × (slice_get opened i ≡ Some o) × (o.position ≡ t)
 
@@ -193,7 +193,8 @@ pub record Opens (board : Board) (cap : Option ℕ) (from : Expanded) (old new :
 
 -- an expansion has opened these positions and left others for later, the least total of which is `next`. It depends on
 -- the expanded position alone, not on what was found
-pub record IsExpansion (board : Board) (cap : Option ℕ) (from : Expanded) (opened : List Opened) (next : Option ℕ) : Type 0
+pub record IsExpansion (board : Board) (cap : Option ℕ) (from : Expanded) (opened : List Opened) (next : Option ℕ) :
+    Type 0
   where
     pub each : AreOpenedBy board cap from opened
     pub expands : Expands board (tighter cap next) (IsOpenedPosition opened) from.pushes from.position
@@ -201,7 +202,8 @@ pub record IsExpansion (board : Board) (cap : Option ℕ) (from : Expanded) (ope
 
 -- the first of the opened positions were found with at most k pushes
 abbrev pub AreEntered : List Entry → List Opened → ℕ → ℕ → Type 0
-AreEntered all opened k count = (i : ℕ) (o : Opened) → i < count → slice_get opened i ≡ Some o → IsFound all k o.position
+AreEntered all opened k count = (i : ℕ) (o : Opened) → i < count → slice_get opened i ≡ Some o →
+    IsFound all k o.position
 
 -- the numbers of an expansion fit their types, with one more push
 pub record FitsTypes (from : Expanded) : Type 0 where

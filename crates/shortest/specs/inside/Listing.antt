@@ -1,5 +1,6 @@
 -- The states that a search lists.
-use Rattle.std.specs.Prelude.{◌≡◌, ℕ, suc, ◌+◌, ◌≤◌, ◌<◌, List, [], ◌∷◌, ◌++◌, map, length, slice_get, Option, Some, None}
+use Rattle.std.specs.Prelude.{◌≡◌, ℕ, suc, ◌+◌, ◌≤◌, ◌<◌, List, [], ◌∷◌, ◌++◌, map, length, slice_get, Option}
+use Rattle.std.specs.Prelude.{Some, None}
 use Rattle.std.specs.Prelude.{◌⊎◌, Bool, true, false}
 use Rattle.grid.specs.declared.square.Push.{Push}
 use Rattle.grid.specs.Board.{Board, Scene, start}
@@ -38,7 +39,8 @@ KeepsEach board most all x = (p : Push) → CanPush board x.position p → IsKep
 pub record AreListed (board : Board) (most done : ℕ) (all : List Entry) : Type 0 where
   pub begun : (x : Entry) × (slice_get all 0 ≡ Some x) × (x.position ≡ start board) × (x.pushes ≡ 0)
   pub each : (i : ℕ) (x : Entry) → slice_get all i ≡ Some x → IsReachedState board most x
-  pub sorted : (i j : ℕ) (x y : Entry) → i ≤ j → slice_get all i ≡ Some x → slice_get all j ≡ Some y → x.pushes ≤ y.pushes
+  pub sorted : (i j : ℕ) (x y : Entry) → i ≤ j → slice_get all i ≡ Some x → slice_get all j ≡ Some y →
+      x.pushes ≤ y.pushes
   pub near : (i j : ℕ) (x y : Entry) → done ≤ i → slice_get all i ≡ Some x → slice_get all j ≡ Some y →
       y.pushes ≤ suc x.pushes
   pub expanded : (i : ℕ) (x : Entry) → i < done → slice_get all i ≡ Some x → KeepsEach board most all x

@@ -1,5 +1,6 @@
 -- The fewest moves from each listed state to the end.
-use Rattle.std.specs.Prelude.{◌≡◌, ℕ, suc, ◌+◌, ◌*◌, ◌≤◌, ◌<◌, List, [], ◌∷◌, ◌++◌, length, slice_get, Option, None, Some}
+use Rattle.std.specs.Prelude.{◌≡◌, ℕ, suc, ◌+◌, ◌*◌, ◌≤◌, ◌<◌, List, [], ◌∷◌, ◌++◌, length, slice_get, Option}
+use Rattle.std.specs.Prelude.{None, Some}
 use Rattle.grid.specs.declared.dir.Dir.{Dir}
 use Rattle.grid.specs.declared.square.Push.{Push}
 use Rattle.grid.specs.Board.{Board, Scene, IsSolved, next, opposite, start}
@@ -19,14 +20,14 @@ IsAtMost (Some v) n = v ≤ n
 
 -- some play from s with at most m pushes ends solved and has v moves
 abbrev pub EndsSolvedBy : Board → ℕ → Scene → ℕ → Type 0
-EndsSolvedBy board m s v = (ds : List Dir) × (ps : List Push) × (t : Scene) × Play board Any s ds ps t × IsSolved board t ×
-    (length ps ≤ m) × (length ds ≡ v)
+EndsSolvedBy board m s v = (ds : List Dir) × (ps : List Push) × (t : Scene) × Play board Any s ds ps t ×
+    IsSolved board t × (length ps ≤ m) × (length ds ≡ v)
 
 -- the fewest moves of a play from s with at most m pushes that ends solved; None if there is no such play
 pub record IsRest (board : Board) (m : ℕ) (s : Scene) (rest : Option ℕ) : Type 0 where
   pub some : (v : ℕ) → rest ≡ Some v → EndsSolvedBy board m s v
-  pub least : (ds : List Dir) (ps : List Push) (t : Scene) → Play board Any s ds ps t → IsSolved board t → length ps ≤ m →
-      IsAtMost rest (length ds)
+  pub least : (ds : List Dir) (ps : List Push) (t : Scene) → Play board Any s ds ps t → IsSolved board t →
+      length ps ≤ m → IsAtMost rest (length ds)
 
 -- the fewest moves of a listed state, and that they fit 64 bits
 pub record IsRestOf (board : Board) (m : ℕ) (s : Scene) (rest : Option ℕ) : Type 0 where
@@ -36,8 +37,8 @@ pub record IsRestOf (board : Board) (m : ℕ) (s : Scene) (rest : Option ℕ) : 
 -- the numbers are the fewest moves of the listed states from a place on
 pub record AreRests (board : Board) (most place : ℕ) (all : List Entry) (rests : List (Option ℕ)) : Type 0 where
   pub many : length rests ≡ length all
-  pub each : (i m : ℕ) (x : Entry) (rest : Option ℕ) → place ≤ i → slice_get all i ≡ Some x → slice_get rests i ≡ Some rest →
-      x.pushes + m ≡ most → IsRestOf board m x.position rest
+  pub each : (i m : ℕ) (x : Entry) (rest : Option ℕ) → place ≤ i → slice_get all i ≡ Some x →
+      slice_get rests i ≡ Some rest → x.pushes + m ≡ most → IsRestOf board m x.position rest
 
 -- the state with k pushes is listed, is not one of the last, and the fewest moves of the states behind it are known
 pub record IsOnward (v : StatesView) (rests : List (Option ℕ)) (k : ℕ) (s : Scene) : Type 0 where
@@ -53,8 +54,8 @@ IsLeastBy board m s p moves = (ds : List Dir) (ps : List Push) (t : Scene) → P
     IsSolved board t → length ps ≤ m → IsAtMost moves (length ds)
 
 -- the state after a push of a state with k pushes has the place, and this is the fewest moves from it on
-pub record LeadsOn (board : Board) (all : List Entry) (rests : List (Option ℕ)) (k : ℕ) (s : Scene) (p : Push) (place rest : ℕ) :
-    Type 0 where
+pub record LeadsOn (board : Board) (all : List Entry) (rests : List (Option ℕ)) (k : ℕ) (s : Scene) (p : Push)
+    (place rest : ℕ) : Type 0 where
   pub entry : Entry
   pub at : slice_get all place ≡ Some entry
   pub there : entry.position ≡ after_push board s p

@@ -14,12 +14,21 @@ use Rattle.successors.specs.Distances.{IsAtDistance}
 use Rattle.layers.specs.Books.{AreAllShares, IsJoinOf, IsNew, MayBegin, with_begun}
 use Rattle.layers.proofs.lemmas.Shares.{closed_upto}
 use Rattle.solo.specs.Answers.{IsAnswer}
-use Rattle.solo.specs.inside.Searched.{IsNextLayer, IsExamined, IsLookedAt, SearchView, new_search, places_of, with_layer}
-use Rattle.solo.specs.inside.Iterations.{AreBetweenLayers, AreDealt, AreWorked, AreWorkingOn, HaveBegun, IsDealt, IsWorkingOn, WorkAnswer}
+use Rattle.solo.specs.inside.Searched.{IsNextLayer, IsLookedAt, SearchView, new_search, places_of, with_layer}
+use Rattle.solo.specs.inside.Iterations.{AreBetweenLayers, AreDealt, AreWorkingOn, HaveBegun, HaveChanged, IsDealt, IsWorkingOn}
+use Rattle.solo.specs.inside.Rests.{HasClosed}
 use Rattle.solo.specs.declared.answer.Answer.TheVariants.{Limit}
-use Rattle.solo.specs.declared.ranks.Worked.TheVariants.{Through, Over}
 use Rattle.solo.proofs.ReadingBack.{trail_long}
 use Rattle.solo.proofs.Solving.{none_searched, searched_bound}
+
+-- which book each of several books was before they changed
+pub back_to : (After : BookView → BookView → Type 0) (before after : List BookView) → HaveChanged After before after → (i : ℕ) (w : BookView) →
+    slice_get after i ≡ Some w → (v : BookView) × (slice_get before i ≡ Some v) × After v w
+back_to After before after (same, each) i w at =
+    let v = get_or before i w in
+    let there : slice_get before i ≡ Some v = slice_get-get_or before i w (omega (arith, slice_get_within after i w at, same)) in
+    let x = each i v there in
+    (v, there, subst (After v) (same_Some x.0 w (sym x.1 ∙ at)) x.2)
 
 -- before a search nothing was looked at
 pub none_looked : (task : Task) (limit : ℕ) → IsLookedAt task limit [] 0
@@ -79,15 +88,13 @@ pub at_work : (s : SearchView) (workers shares : ℕ) (books after : List BookVi
 at_work s workers shares books after ranks layer between next begun = (
   record {
     all = begun.0 ∙ between.dealt.all;
-    each = λ i w at. subst (IsDealt s.task s.limit workers shares i) (from i w at).2 (between.dealt.each i (from i w at).0 (from i w at).1);
+    each = λ i w at. (let b = from i w at in subst (IsDealt s.task s.limit workers shares i) (sym b.2) (between.dealt.each i b.0 b.1));
   },
-  λ i w at. subst (IsWorkingOn layer) (from i w at).2 (working i (from i w at).0 (from i w at).1),
+  λ i w at. (let b = from i w at in subst (IsWorkingOn layer) (sym b.2) (working i b.0 b.1)),
 )
   where
-    from : (i : ℕ) (w : BookView) → slice_get after i ≡ Some w → (v : BookView) × (slice_get books i ≡ Some v) × (with_begun v ranks ≡ w)
-    from i w at =
-        let there : slice_get books i ≡ Some (get_or books i w) = slice_get-get_or books i w (omega (arith, slice_get_within after i w at, begun.0)) in
-        (get_or books i w, there, same_Some (with_begun (get_or books i w) ranks) w (sym (begun.1 i (get_or books i w) there) ∙ at))
+    from : (i : ℕ) (w : BookView) → slice_get after i ≡ Some w → (v : BookView) × (slice_get books i ≡ Some v) × (w ≡ with_begun v ranks)
+    from i w at = back_to (λ v x. x ≡ with_begun v ranks) books after begun i w at
 
     working : (i : ℕ) (v : BookView) → slice_get books i ≡ Some v → IsWorkingOn layer (with_begun v ranks)
     working i v at = (
@@ -99,30 +106,24 @@ at_work s workers shares books after ranks layer between next begun = (
       omega (arith, next.1, (between.paused i v at).1),
     )
 
--- once its ranks are done, the books are between two iterations again
-pub goes_on : (s : SearchView) (workers shares : ℕ) (after : List BookView) (layer : LayerView) → IsNextLayer s layer →
-    AreWorked s.task s.limit workers shares layer Through after → AreBetweenLayers (with_layer s layer) workers shares after
-goes_on s workers shares after layer next (before, dealt, working, (same, left)) = record {
-  dealt = record { all = same ∙ dealt.all; each = λ i w at. (through i w at).0 };
+-- once they have closed the next layer, the books are between two iterations again
+pub goes_on : (s : SearchView) (workers shares : ℕ) (before after : List BookView) (layer : LayerView) → IsNextLayer s layer →
+    AreDealt s.task s.limit workers shares before → AreWorkingOn layer before → HaveChanged HasClosed before after →
+    AreBetweenLayers (with_layer s layer) workers shares after
+goes_on s workers shares before after layer next dealt working closed = record {
+  dealt = record { all = closed.0 ∙ dealt.all; each = λ i w at. (through i w at).0 };
   paused = λ i w at. ((through i w at).1, (through i w at).2);
 }
   where
-    left_so : (i : ℕ) (v w : BookView) → slice_get before i ≡ Some v → WorkAnswer v Through w →
-        IsDealt s.task s.limit workers shares i w × (w.begun ≡ false) × (length w.closed ≡ suc (length (s.trail ++ layer.origins ∷ [])))
-    left_so i v w at (alike, begun, closed) =
-        let d = dealt.each i v at in (
-          (sym alike.0 ∙ d.0, sym alike.1 ∙ d.1, sym alike.2 ∙ d.2, sym alike.3 ∙ d.3, sym alike.4 ∙ d.4),
-          begun,
-          omega (arith, closed, (working i v at).1, next.1, length-append s.trail (layer.origins ∷ [])),
-        )
-
     through : (i : ℕ) (w : BookView) → slice_get after i ≡ Some w → IsDealt s.task s.limit workers shares i w × (w.begun ≡ false)
         × (length w.closed ≡ suc (length (s.trail ++ layer.origins ∷ [])))
     through i w at =
-        let v = get_or before i w in
-        let there : slice_get before i ≡ Some v = slice_get-get_or before i w (omega (arith, slice_get_within after i w at, same)) in
-        let l = left i v there in
-        left_so i v w there (subst (WorkAnswer v Through) (same_Some l.0 w (sym l.1 ∙ at)) l.2)
+        let (v, there, (report, (all, (es, sorted, is, number, count)))) = back_to HasClosed before after closed i w at in
+        subst (λ x. IsDealt s.task s.limit workers shares i x × (x.begun ≡ false) × (length x.closed ≡ suc (length (s.trail ++ layer.origins ∷ [])))) (sym is) (
+          dealt.each i v there,
+          refl,
+          omega (arith, length-append v.closed (es ∷ []), (working i v there).1, next.1, length-append s.trail (layer.origins ∷ [])),
+        )
 
 -- where a book is over, and the layers that it has closed were looked at, the answer is the limit
 pub over_limit : (task : Task) (limit positions : ℕ) (trail : List (List (Origin Push))) (book : BookView) → IsLookedAt task limit trail positions →
@@ -146,11 +147,3 @@ over_limit task limit positions trail book looked lawful level same over long =
       );
       unsolved = searched_bound task (places_of layers) (subst (λ (t : Task). IsLevel t.board) level lawful.level) searched;
     }
-
--- so it is where the ranks of the layer that was looked at last were done until one of the books was over
-pub ends_over : (s : SearchView) (workers shares : ℕ) (after : List BookView) (layer : LayerView) → IsNextLayer s layer → IsExamined s layer →
-    AreWorked s.task s.limit workers shares layer Over after → IsAnswer s.task s.limit Limit
-ends_over s workers shares after layer next examined (before, dealt, working, (i, v, at, (w, there, (alike, over, closed), lawful))) =
-    let d = dealt.each i v at in
-    over_limit s.task s.limit _ (s.trail ++ layer.origins ∷ []) w examined.looked lawful
-    (sym alike.0 ∙ d.0) (sym alike.1 ∙ d.1) over (omega (arith, closed, (working i v at).1, next.1, length-append s.trail (layer.origins ∷ [])))

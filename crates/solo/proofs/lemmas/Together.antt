@@ -1,8 +1,6 @@
 -- Books that pass the limit together, and books after an error.
-use Rattle.std.proofs.Common.{◌≡◌, ℕ, suc, ◌<◌, ◌≤◌, List, [], ◌∷◌, ◌++◌, length, get_or, Some, inl, inr, refl, sym, ap, subst, ◌∙◌, arith}
-use Rattle.std.specs.Prelude.{slice_get}
+use Rattle.std.proofs.Common.{◌≡◌, ℕ, suc, ◌<◌, ◌≤◌, List, [], ◌∷◌, ◌++◌, length, inl, inr, refl, sym, ap, subst, ◌∙◌, arith}
 use Rattle.std.proofs.lemmas.List.{length-append, length-map}
-use Rattle.std.proofs.lemmas.Option.{same_Some, slice_get-get_or, slice_get_within}
 use Rattle.grid.specs.Lawful.{IsLevel}
 use Rattle.grid.specs.declared.square.Push.{Push}
 use Rattle.successors.specs.Tasks.{Task}
@@ -16,14 +14,12 @@ use Rattle.layers.specs.Holding.{all_held}
 use Rattle.layers.proofs.lemmas.Holdings.{held_all}
 use Rattle.solo.specs.Answers.{IsAnswer}
 use Rattle.solo.specs.inside.Searched.{IsNextLayer, IsExamined, IsLookedAt, SearchView, places_of}
-use Rattle.solo.specs.inside.Iterations.{AreDealt, AreWorkingOn, WorkAnswer, WorkAnswers}
-use Rattle.solo.specs.inside.Together.{AreFinished, AreStill, IsStill, PassTogether}
+use Rattle.solo.specs.inside.Iterations.{AreDealt, AreWorkingOn}
+use Rattle.solo.specs.inside.Together.{AreStill, IsStill, PassTogether}
 use Rattle.solo.specs.declared.answer.Answer.TheVariants.{Limit}
-use Rattle.solo.specs.declared.ranks.Worked.{Worked}
-use Rattle.solo.specs.declared.ranks.Worked.TheVariants.{Through, Over}
 use Rattle.solo.proofs.ReadingBack.{trail_long}
 use Rattle.solo.proofs.Solving.{searched_bound}
-use Rattle.solo.proofs.lemmas.Iterations.{over_limit}
+use Rattle.solo.proofs.lemmas.Iterations.{back_to, over_limit}
 
 -- where the books of all shares hold more positions together than the limit, and the layers that they have closed were looked
 -- at, the answer is the limit
@@ -78,50 +74,19 @@ together_limit s workers shares books layer some next examined dealt working (la
 
 -- ---- books that are still at work
 
--- which book it was
-pub back_to : (layer : LayerView) (before after : List BookView) → AreStill layer before after → (i : ℕ) (u : BookView) → slice_get after i ≡ Some u →
-    (v : BookView) × (slice_get before i ≡ Some v) × IsStill layer v u
-back_to layer before after (same, each) i u at =
-    let v = get_or before i u in
-    let there : slice_get before i ≡ Some v = slice_get-get_or before i u (omega (arith, slice_get_within after i u at, same)) in
-    let w = each i v there in
-    (v, there, subst (IsStill layer v) (same_Some w.0 u (sym w.1 ∙ at)) w.2)
-
--- each is at work on the layer, and made for as many workers as before
+-- each is at work on the layer
 pub still_working : (layer : LayerView) (before after : List BookView) → AreWorkingOn layer before → AreStill layer before after → AreWorkingOn layer after
 still_working layer before after working still i u at =
-    let b = back_to layer before after still i u at in
+    let b = back_to (IsStill layer) before after still i u at in
     (b.2.2, ap length b.2.1 ∙ (working i b.0 b.1).1)
-
-pub still_workers : (layer : LayerView) (before after : List BookView) (worker : ℕ) → AreStill layer before after →
-    ((i : ℕ) (v : BookView) → slice_get before i ≡ Some v → worker < v.workers) → (i : ℕ) (u : BookView) → slice_get after i ≡ Some u → worker < u.workers
-still_workers layer before after worker still member i u at =
-    let b = back_to layer before after still i u at in
-    subst (λ n. worker < n) b.2.0.2 (member i b.0 b.1)
 
 -- and dealt as before
 pub still_dealt : (task : Task) (limit workers shares : ℕ) (layer : LayerView) (before after : List BookView) → AreDealt task limit workers shares before →
     AreStill layer before after → AreDealt task limit workers shares after
 still_dealt task limit workers shares layer before after dealt still = record {
   all = still.0 ∙ dealt.all;
-  each = λ i u at. (let b = back_to layer before after still i u at in
+  each = λ i u at. (let b = back_to (IsStill layer) before after still i u at in
       let d = dealt.each i b.0 b.1 in
       let a = b.2.0 in
       (sym a.0 ∙ d.0, sym a.1 ∙ d.1, sym a.2 ∙ d.2, sym a.3 ∙ d.3, sym a.4 ∙ d.4));
 }
-
--- what their last ranks leave of them, they leave of the books before
-since : (layer : LayerView) (v u w : BookView) (worked : Worked) → IsStill layer v u → WorkAnswer u worked w → WorkAnswer v worked w
-since layer v u w Through (a, closed, begun) (b, paused, long) =
-    ((a.0 ∙ b.0, a.1 ∙ b.1, a.2 ∙ b.2, a.3 ∙ b.3, a.4 ∙ b.4), paused, omega (arith, long, ap length closed))
-since layer v u w Over (a, closed, begun) (b, over, long) = ((a.0 ∙ b.0, a.1 ∙ b.1, a.2 ∙ b.2, a.3 ∙ b.3, a.4 ∙ b.4), over, long ∙ ap length closed)
-
-pub still_worked : (limit : ℕ) (layer : LayerView) (before mid after : List BookView) (worked : Worked) → AreStill layer before mid →
-    WorkAnswers mid worked after → AreFinished limit before layer worked after
-still_worked limit layer before mid after Through still (same, left) = (
-  same ∙ still.0,
-  λ i v at. (let u = still.1 i v at in let w = left i u.0 u.1 in (w.0, w.1, since layer v u.0 w.0 Through u.2 w.2, w.3)),
-)
-still_worked limit layer before mid after Over still (i, u, at, w) =
-    let b = back_to layer before mid still i u at in
-    inl (i, b.0, b.1, (w.0, w.1, since layer b.0 u w.0 Over b.2 w.2, w.3))

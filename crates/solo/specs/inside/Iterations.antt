@@ -5,12 +5,10 @@ use Rattle.std.specs.Prelude.{slice_index_or, slice_set, Some}
 use Rattle.successors.specs.Tasks.{Task}
 use Rattle.layers.specs.LayerView.{LayerView}
 use Rattle.successors.specs.ParcelView.{ParcelView}
-use Rattle.layers.specs.BookView.{BookView, IsDone, IsLawfulBook}
+use Rattle.layers.specs.BookView.{BookView, IsDone}
 use Rattle.layers.specs.Books.{HasBegun, with_begun}
 use Rattle.layers.specs.Events.{AreMadeAlike}
 use Rattle.solo.specs.inside.Searched.{SearchView}
-use Rattle.solo.specs.declared.ranks.Worked.{Worked}
-use Rattle.solo.specs.declared.ranks.Worked.TheVariants.{Through, Over}
 
 -- ---- the books of a search
 
@@ -51,44 +49,21 @@ GoesOn before after workers shares books =
 
 -- ---- a layer begins
 
+-- each of several books has changed so
+abbrev pub HaveChanged : (BookView → BookView → Type 0) → List BookView → List BookView → Type 0
+HaveChanged After before after =
+    (length after ≡ length before) × ((i : ℕ) (v : BookView) → slice_get before i ≡ Some v →
+    (w : BookView) × (slice_get after i ≡ Some w) × After v w)
+
 -- each of the books has begun, with this number of ranks
 abbrev pub HaveBegun : List BookView → ℕ → List BookView → Type 0
-HaveBegun before ranks after =
-    (length after ≡ length before) ×
-    ((i : ℕ) (v : BookView) → slice_get before i ≡ Some v → slice_get after i ≡ Some (with_begun v ranks))
+HaveBegun before ranks after = HaveChanged (λ v w. w ≡ with_begun v ranks) before after
 
 -- each of the books is unchanged, or has begun
 abbrev pub MayHaveBegun : List BookView → ℕ → List BookView → Type 0
-MayHaveBegun before ranks after =
-    (length after ≡ length before)
-    × ((i : ℕ) (v : BookView) → slice_get before i ≡ Some v → (slice_get after i ≡ Some v) ⊎
-    (slice_get after i ≡ Some (with_begun v ranks)))
+MayHaveBegun before ranks after = HaveChanged (λ v w. (w ≡ v) ⊎ (w ≡ with_begun v ranks)) before after
 
 -- ---- the ranks of a layer are done
-
--- a book after the last ranks of a layer: it has closed the next layer, and not begun it; or it is over its limit
-abbrev pub WorkAnswer : BookView → Worked → BookView → Type 0
-WorkAnswer before Through after =
-    AreMadeAlike before after × (after.begun ≡ false) × (length after.closed ≡ suc (length before.closed))
-WorkAnswer before Over after =
-    AreMadeAlike before after × (after.over ≡ true) × (length after.closed ≡ length before.closed)
-
--- so is the book at index i after them, and lawful
-abbrev pub IsLeft : List BookView → Worked → List BookView → ℕ → BookView → Type 0
-IsLeft before worked after i v = (w : BookView) × (slice_get after i ≡ Some w) × WorkAnswer v worked w × IsLawfulBook w
-
--- several books after the last ranks of a layer: each has closed the next layer; or one of them is over its limit
-abbrev pub WorkAnswers : List BookView → Worked → List BookView → Type 0
-WorkAnswers before Through after =
-    (length after ≡ length before) ×
-    ((i : ℕ) (v : BookView) → slice_get before i ≡ Some v → IsLeft before Through after i v)
-WorkAnswers before Over after = (i : ℕ) × (v : BookView) × (slice_get before i ≡ Some v) × IsLeft before Over after i v
-
--- all the shares were at work on the layer, and these are the books after its last ranks
-abbrev pub AreWorked : Task → ℕ → ℕ → ℕ → LayerView → Worked → List BookView → Type 0
-AreWorked task limit workers shares layer worked after =
-    (before : List BookView) × AreDealt task limit workers shares before × AreWorkingOn layer before ×
-    WorkAnswers before worked after
 
 -- the book is at work on the layer, with the same level, numbers and closed layers as before
 pub record IsStillAt (before : BookView) (layer : LayerView) (book : BookView) : Type 0 where
@@ -101,13 +76,6 @@ pub record IsStillAt (before : BookView) (layer : LayerView) (book : BookView) :
 abbrev pub IsReopenedAt : LayerView → BookView → Type 0
 IsReopenedAt layer book = IsStillAt book layer book × (book.claimed ≡ book.done)
 
--- several books after the search ran out of memory: each is unchanged, or still at work, or has closed the next layer
-abbrev pub MayBeWorked : List BookView → LayerView → List BookView → Type 0
-MayBeWorked before layer after =
-    (length after ≡ length before)
-    × ((i : ℕ) (v : BookView) → slice_get before i ≡ Some v
-    → (w : BookView) × (slice_get after i ≡ Some w) × ((w ≡ v) ⊎ IsStillAt v layer w ⊎ WorkAnswer v Through w))
-
 -- the number of ranks of the layer at work that are not done
 abbrev pub left_ranks : BookView → ℕ
 left_ranks v = count_by not v.done
@@ -117,17 +85,14 @@ abbrev pub IsCredited : ℕ → ℕ → BookView → BookView → Type 0
 IsCredited worker ranks before after =
     after.tallies ≡ slice_set before.tallies worker (slice_index_or before.tallies worker 0 + ranks)
 
--- only the worker gets credit for the ranks that were done: as many as fewer are left. A book that has closed the next
--- layer has none left
+-- only the worker gets credit for the ranks that were done: as many as fewer are left
 abbrev pub IsDoneBy : ℕ → BookView → BookView → Type 0
 IsDoneBy worker before after =
     (ranks : ℕ) × (left_ranks before ≡ left_ranks after + ranks) × IsCredited worker ranks before after
 
 -- so it is for each of several books
 abbrev pub AreDoneBy : ℕ → List BookView → List BookView → Type 0
-AreDoneBy worker before after =
-    (length after ≡ length before) × ((i : ℕ) (v : BookView) → slice_get before i ≡ Some v →
-    (w : BookView) × (slice_get after i ≡ Some w) × IsDoneBy worker v w)
+AreDoneBy worker before after = HaveChanged (IsDoneBy worker) before after
 
 -- the parcel is of a rank of the layer
 abbrev pub IsOfRank : LayerView → ℕ → ParcelView → Type 0

@@ -213,19 +213,43 @@ map_at f [] r x e = cc
 map_at f (y ∷ xs) zero x e = cc
 map_at f (y ∷ xs) (suc r) x e = map_at f xs r x e
 
--- what stood elsewhere still stands, and the new one in its place
-pub set-at : {A : Type 0} (xs : List A) (s : ℕ) (x y : A) → slice_get xs s ≡ Some x → slice_get (set xs s y) s ≡ Some y
-set-at [] s x y here = absurd (none-some x here)
-set-at (w ∷ xs) zero x y here = refl
-set-at (w ∷ xs) (suc s) x y here = set-at xs s x y here
+-- ---- one element written
 
-pub set_elsewhere : {A : Type 0} (xs : List A) (s t : ℕ) (y z : A) → t ≢ s → slice_get xs t ≡ Some z
-    → slice_get (set xs s y) t ≡ Some z
-set_elsewhere [] s t y z ne at = absurd (none-some z at)
-set_elsewhere (w ∷ xs) zero zero y z ne at = absurd (ne refl)
-set_elsewhere (w ∷ xs) zero (suc t) y z ne at = at
-set_elsewhere (w ∷ xs) (suc s) zero y z ne at = at
-set_elsewhere (w ∷ xs) (suc s) (suc t) y z ne at = set_elsewhere xs s t y z (λ e. ne (ap suc e)) at
+pub set_here : {A : Type 0} (xs : List A) (s : ℕ) (y : A) → s < length xs → slice_get (set xs s y) s ≡ Some y
+set_here [] s y lt = absurd (omega (arith, lt))
+set_here (x ∷ xs) zero y lt = refl
+set_here (x ∷ xs) (suc s) y lt = set_here xs s y (omega (arith, lt))
+
+pub set_there : {A : Type 0} (xs : List A) (s t : ℕ) (y : A) → t ≢ s → slice_get (set xs s y) t ≡ slice_get xs t
+set_there [] s t y ne = refl
+set_there (x ∷ xs) zero zero y ne = absurd (ne refl)
+set_there (x ∷ xs) zero (suc t) y ne = refl
+set_there (x ∷ xs) (suc s) zero y ne = refl
+set_there (x ∷ xs) (suc s) (suc t) y ne = set_there xs s t y (λ e. ne (ap suc e))
+
+-- an element after that is the written one, or was there before
+pub set_at : {A : Type 0} (xs : List A) (s t : ℕ) (y z : A) → slice_get (set xs s y) t ≡ Some z
+    → ((t ≡ s) × (z ≡ y)) ⊎ ((t ≢ s) × (slice_get xs t ≡ Some z))
+set_at [] s t y z at = absurd (none-some z at)
+set_at (x ∷ xs) zero zero y z at = inl (refl, sym (same_Some y z at))
+set_at (x ∷ xs) zero (suc t) y z at = inr ((λ e. omega (arith, e)), at)
+set_at (x ∷ xs) (suc s) zero y z at = inr ((λ e. omega (arith, e)), at)
+set_at (x ∷ xs) (suc s) (suc t) y z at = elim (set_at xs s t y z at) [
+  | inl same ↦ inl (ap suc same.0, same.1)
+  | inr other ↦ inr ((λ e. other.0 (omega (arith, e))), other.1)
+]
+
+-- ---- what holds of each element
+
+pub each_set : {A : Type 0} (P : A → Type 0) (xs : List A) (s : ℕ) (y : A) → P y
+    → ((t : ℕ) (z : A) → slice_get xs t ≡ Some z → P z) → (t : ℕ) (z : A) → slice_get (set xs s y) t ≡ Some z → P z
+each_set P xs s y new each t z at =
+    elim (set_at xs s t y z at) [ inl same ↦ subst P (sym same.1) new | inr other ↦ each t z other.1 ]
+
+pub each_push : {A : Type 0} (P : A → Type 0) (xs : List A) (y : A) → P y
+    → ((t : ℕ) (z : A) → slice_get xs t ≡ Some z → P z) → (t : ℕ) (z : A) → slice_get (xs ++ y ∷ []) t ≡ Some z → P z
+each_push P xs y new each t z at =
+    elim (at-push xs y t z at) [ inl old ↦ each t z old | inr same ↦ subst P (sym same.1) new ]
 
 pub take_short : {A : Type 0} (xs : List A) (n : ℕ) → length xs ≤ n → take n xs ≡ xs
 take_short [] zero le = refl

@@ -145,7 +145,7 @@ fn full_share(rt: &impl Abort, alloc: Global) -> Book {
     book
 }
 
-/// The end of a worker on layer 0 of TWO_ENDS with two books, in this order.
+/// How a worker ends its work on layer 0 of TWO_ENDS with two books, in this order.
 fn ended_over<R: Wait + Abort>(rt: &R, alloc: Global, first: Book, second: Book) -> End {
     let layer = start_of(rt, alloc, TWO_ENDS);
     let (ledger, _, own) = one_number(rt, alloc);

@@ -1,7 +1,7 @@
 use Rattle.std.proofs.Common.{◌≡◌, ◌++◌, drop, length, take, sym, ap, subst, ◌∙◌, arith}
 use Rattle.std.proofs.Math.Seq.{take-append_seam}
-use Rattle.solo.specs.inside.Together.{AreFinished}
 use Rattle.crew.specs.Lending.{ComeBack}
+use Rattle.crew.specs.inside.Iterations.{AreFinished}
 use Rattle.crew.proofs.Lending.{come_dealt}
 use Rattle.crew.proofs.iteration.finish_lent.Goals as goal
 
@@ -32,5 +32,5 @@ returns-clause-worked g c =
       lent,
       (come_dealt config c.args.search.now layer lent c.requires.level c.requires.limit come).0,
       (come_dealt config c.args.search.now layer lent c.requires.level c.requires.limit come).1,
-      subst (AreFinished c.args.search.now.limit lent layer c.in_ok-worked.worked) (sym left) c.in_ok-worked.ensures.worked,
+      subst (AreFinished c.args.search.now.limit lent layer c.in_ok-within.within) (sym left) c.in_ok-within.ensures.finished,
     )

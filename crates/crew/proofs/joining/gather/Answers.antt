@@ -1,5 +1,6 @@
 use Rattle.layers.specs.inside.Merging.{IsSegmentOf}
-use Rattle.crew.proofs.Parts.{at_first, each_set}
+use Rattle.successors.proofs.lemmas.Lists.{each_set}
+use Rattle.crew.proofs.Parts.{at_first}
 use Rattle.crew.proofs.joining.gather.Goals as goal
 
 pub append_all-requires-clause-own : goal.append_all-requires-clause-own

@@ -1,7 +1,8 @@
 use Rattle.std.proofs.Common.{get_or, arith}
 use Rattle.std.proofs.lemmas.Option.{slice_get-get_or}
+use Rattle.successors.proofs.lemmas.Lists.{each_set}
 use Rattle.layers.specs.inside.Merging.{IsSegmentOf}
-use Rattle.layers.proofs.Segments.{all_kept, each_kept, kept_set}
+use Rattle.layers.proofs.Segments.{all_kept, kept_set}
 use Rattle.layers.proofs.segment.append_each.Goals as goal
 
 pub loop-index-init : goal.loop-index-init
@@ -15,7 +16,7 @@ append_segment-requires c =
 pub loop-index-preserved : goal.loop-index-preserved
 loop-index-preserved c = (
   λ starts taken. c.in_ok-append_segment.ensures.follows starts (c.loop-index.invariant.0 starts taken) c.if-not-branch.false,
-  each_kept (IsSegmentOf c.args.books.now) c.loop-index.segments c.loop-index.index c.append_segment.new.segment c.append_segment.ensures.segment
+  each_set (IsSegmentOf c.args.books.now) c.loop-index.segments c.loop-index.index c.append_segment.new.segment c.append_segment.ensures.segment
       c.loop-index.invariant.1,
   kept_set c.args.segments.now c.loop-index.segments c.loop-index.index (get_or c.loop-index.segments c.loop-index.index c.index-segments-index.result)
       c.append_segment.new.segment c.loop-index.invariant.2

@@ -97,6 +97,7 @@ returns-clause-expansion c =
     record {
       each = was.each;
       later = was.later;
-      expands = expands_by board (tighter cap next) (IsOpenedPosition c.loop-index.workspace.opened.items) (IsChosen only held) k s ps c.loop-index.index fits.scene pushes over
+      expands = expands_by board (tighter cap next) (IsOpenedPosition c.loop-index.workspace.opened.items) (IsChosen only held)
+          k s ps c.loop-index.index fits.scene pushes over
           (λ m allowed. chosen_suffice board left s only held level fits closure m (c.left-left.ensures m (loosened cap next (k + suc m) allowed))) was.taken;
     }

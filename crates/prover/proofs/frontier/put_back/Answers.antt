@@ -36,7 +36,8 @@ returns-in_err-reserve-2-clause-queued c =
     let less = c.pop_aside.new.self in
     let back = c.insert_open.new.queue in
     let next = c.reserve-in-Some.new.self in
-    queued_same all (heap_items back.heap) (heap_items next.heap) back.aside.items next.aside.items c.reserve-in-Some.ensures.same c.reserve-in-Some.ensures.aside
+    queued_same all (heap_items back.heap) (heap_items next.heap) back.aside.items next.aside.items
+    c.reserve-in-Some.ensures.same c.reserve-in-Some.ensures.aside
     (queued_back all c.in-Some.ticket (tickets c.loop-ticket.queue) (heap_items less.heap) (heap_items back.heap) less.aside.items back.aside.items
     c.loop-ticket.invariant.queued c.in-Some.ensures.others c.insert_open.ensures.waits c.insert_open.ensures.others c.insert_open.ensures.aside)
 

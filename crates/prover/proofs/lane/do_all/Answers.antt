@@ -1,7 +1,8 @@
 use Rattle.std.proofs.Common.{arith, ◌∙◌}
 use Rattle.std.proofs.lemmas.List.{length-set}
+use Rattle.successors.proofs.lemmas.Lists.{each_set}
 use Rattle.prover.specs.inside.Rounds.{IsJob}
-use Rattle.prover.proofs.Dealing.{each_at, each_set}
+use Rattle.prover.proofs.Dealing.{each_at}
 use Rattle.prover.proofs.lane.do_all.Goals as goal
 
 pub do_job-requires-clause-job : goal.do_job-requires-clause-job

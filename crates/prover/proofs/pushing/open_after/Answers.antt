@@ -22,7 +22,8 @@ returns-in_default-allowed_total-clause-taken c =
     let made : IsNorm board (after_push board s p) n × FitsLevel board n =
     subst (λ (t : Task). IsNorm t.board (after_push t.board s p) n × FitsLevel t.board n) c.requires.task c.in-Some.ensures.made in
     let one : k + 1 ≡ suc k = omega arith in
-    taken_less board cap (tighter cap c.args.workspace.now.next) (IsOpenedPosition c.args.workspace.now.opened.items) k s p (loosened cap c.args.workspace.now.next)
+    taken_less board cap (tighter cap c.args.workspace.now.next) (IsOpenedPosition c.args.workspace.now.opened.items) k s p
+    (loosened cap c.args.workspace.now.next)
     (taken_none board cap (IsOpenedPosition c.args.workspace.now.opened.items) k s n p scene c.requires.possible made.0
     (subst (λ (j : ℕ). NoneGoesOn board cap j n) one c.in_default-allowed_total.ensures.none))
 
@@ -45,7 +46,8 @@ returns-then-total-from-clause-taken c =
 
 pub returns-then-total-from-clause-defers : goal.returns-then-total-from-clause-defers
 returns-then-total-from-clause-defers c =
-    defers_one c.args.pruner.now.cap c.args.from.now.reach c.args.workspace.now.next c.lesser-workspace.result c.in-Some-allowed_total.total c.lesser-workspace.ensures
+    defers_one c.args.pruner.now.cap c.args.from.now.reach c.args.workspace.now.next c.lesser-workspace.result c.in-Some-allowed_total.total
+    c.lesser-workspace.ensures
     (omega (arith, c.if-total-from.true)) c.in-Some-allowed_total.ensures.total.allowed
 
 pub returns-clause-taken : goal.returns-clause-taken
@@ -63,7 +65,8 @@ returns-clause-taken c =
     subst (λ (t : Task). IsNorm t.board (after_push t.board s p) n × FitsLevel t.board n) c.requires.task c.in-Some.ensures.made in
     let o : Opened = (record { position = n; push = p; total = c.in-Some-allowed_total.total }) in
     taken_less board cap (tighter cap next) (IsOpenedPosition new) k s p (loosened cap next)
-    (taken_found board cap (IsOpenedPosition new) k s n p c.requires.expandable.fits.scene c.requires.possible made.0 (listed_last old new o c.in_ok-push.ensures.items))
+    (taken_found board cap (IsOpenedPosition new) k s n p c.requires.expandable.fits.scene c.requires.possible made.0
+    (listed_last old new o c.in_ok-push.ensures.items))
 
 pub returns-clause-opens : goal.returns-clause-opens
 returns-clause-opens c =

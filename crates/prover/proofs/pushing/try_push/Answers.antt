@@ -18,7 +18,8 @@ returns-then-not-allowed-clause-taken c = λ chosen.
     let low = c.total_of-low.result in
     let fits = c.requires.expandable.fits in
     let never = slack_never c.args.slack.now board s least p c.requires.slack c.least-least.ensures in
-    taken_dear board (tighter cap next) (IsOpenedPosition c.args.workspace.now.opened.items) k low least s p fits.scene c.requires.possible never c.total_of-low.ensures.most
+    taken_dear board (tighter cap next) (IsOpenedPosition c.args.workspace.now.opened.items) k low least s p
+    fits.scene c.requires.possible never c.total_of-low.ensures.most
     (λ m allowed. below_refused cap low (k + suc m) (λ ok. true≢false (sym (c.allows-allowed.ensures.1 ok) ∙ c.if-not-allowed.true))
     (loosened cap next (k + suc m) allowed))
 

@@ -1,8 +1,8 @@
-use Rattle.std.proofs.Common.{[], ◌∷◌, ◌≡◌, ap, arith, length, sym, subst, List}
+use Rattle.std.proofs.Common.{[], ◌∷◌, ap, arith, length, sym, subst, List}
 use Rattle.std.proofs.lemmas.List.{length-append}
+use Rattle.successors.proofs.lemmas.Lists.{each_push}
 use Rattle.prover.specs.declared.lane.Lane.{Lane}
 use Rattle.prover.specs.inside.Rounds.{AreLanes, IsLane}
-use Rattle.prover.proofs.Dealing.{each_push}
 use Rattle.prover.proofs.rounds.add_lanes.Goals as goal
 
 pub loop-preserved : goal.loop-preserved

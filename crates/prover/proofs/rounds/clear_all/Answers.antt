@@ -1,7 +1,8 @@
 use Rattle.std.proofs.Common.{arith, ◌∙◌}
 use Rattle.std.proofs.lemmas.List.{length-set}
+use Rattle.successors.proofs.lemmas.Lists.{each_set}
 use Rattle.prover.specs.inside.Rounds.{IsLane}
-use Rattle.prover.proofs.Dealing.{each_at, each_set}
+use Rattle.prover.proofs.Dealing.{each_at}
 use Rattle.prover.proofs.rounds.clear_all.Goals as goal
 
 pub loop-index-preserved : goal.loop-index-preserved

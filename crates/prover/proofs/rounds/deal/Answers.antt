@@ -3,9 +3,10 @@ use Rattle.std.proofs.lemmas.Bool.{false≢true}
 use Rattle.std.proofs.lemmas.List.{length-set}
 use Rattle.grid.specs.Board.{Board, IsSolved}
 use Rattle.store.specs.Visited.{VisitedView}
+use Rattle.successors.proofs.lemmas.Lists.{each_set}
 use Rattle.prover.specs.inside.Rounds.{IsLane}
 use Rattle.prover.specs.inside.Working.{IsSearched}
-use Rattle.prover.proofs.Dealing.{each_at, each_set, ready_by}
+use Rattle.prover.proofs.Dealing.{each_at, ready_by}
 use Rattle.prover.proofs.Entering.{in_range}
 use Rattle.prover.proofs.rounds.deal.Goals as goal
 

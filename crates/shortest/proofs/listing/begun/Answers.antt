@@ -12,7 +12,8 @@ enter-requires c = record {
 
 pub returns : goal.returns
 returns c = λ most. record {
-  listed = start_listed c.args.level.now most c.of-listed.result.entries c.enter.new.self.entries c.args.first.now c.label_of.result _ c.of-listed.ensures.entries
+  listed = start_listed c.args.level.now most c.of-listed.result.entries c.enter.new.self.entries c.args.first.now
+      c.label_of.result _ c.of-listed.ensures.entries
       c.requires.first c.requires.fits c.label_of.ensures c.in_ok-enter.ensures.ok;
   boxes = c.enter.ensures.boxes ∙ (c.of-listed.ensures.boxes ∙ c.boxes.ensures);
   squares = c.enter.ensures.squares ∙ (c.of-listed.ensures.squares ∙ c.squares.ensures);

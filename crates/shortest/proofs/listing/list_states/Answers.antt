@@ -7,4 +7,5 @@ pub returns : goal.returns
 returns c =
     let new = c.list_all.new.listed in
     subst (λ (b : Board). IfOk c.list_all.result (λ whole. EndsListing b c.args.most c.args.limit new whole)) c.in_ok-bounds.ensures.0
-    (subst (λ (n : ℕ). IfOk c.list_all.result (λ whole. EndsListing c.in_ok-bounds.bounds.board n c.args.limit new whole)) c.in_ok-bounds.ensures.1 c.list_all.ensures)
+    (subst (λ (n : ℕ). IfOk c.list_all.result (λ whole. EndsListing c.in_ok-bounds.bounds.board n c.args.limit new whole))
+    c.in_ok-bounds.ensures.1 c.list_all.ensures)

@@ -27,7 +27,8 @@ returns-then-not-allowed-clause-after c =
     let n = c.in-Some.after in
     let made : IsNorm board (after_push board s p) n × FitsLevel board n =
     subst (λ (b : Board). IsNorm b (after_push b s p) n × FitsLevel b n) c.requires.board c.in-Some.ensures.made in
-    none_on board c.args.left c.set_player.new.self (after_push board s p) (c.set_player.ensures ∙ exact board s n p made.0) (c.allow-allowed.ensures c.if-not-allowed.true)
+    none_on board c.args.left c.set_player.new.self (after_push board s p)
+    (c.set_player.ensures ∙ exact board s n p made.0) (c.allow-allowed.ensures c.if-not-allowed.true)
 
 pub returns-clause-after : goal.returns-clause-after
 returns-clause-after c =

@@ -58,7 +58,8 @@ loop-from-preserved c =
     let fewer : from.pushes < v.most = omega (arith, count, long) in
     let items : c.push.new.self.items ≡ read ++ way.push ∷ [] = search rules in
     let more = reading_more v rests total c.loop-from.place from.pushes from.state read way c.tell.ensures c.requires.rests reading c.at-from.ensures fewer
-    c.in-Some.ensures.way (λ m sum. subst (λ (o : Option Way). IsRestOf v.board (suc m) from.state (moves_of o)) c.in-Some.is (c.best_way.ensures.rest m sum)) in
+    c.in-Some.ensures.way (λ m sum. subst (λ (o : Option Way). IsRestOf v.board (suc m) from.state (moves_of o)) c.in-Some.is
+    (c.best_way.ensures.rest m sum)) in
     record {
       reading = (total, first, subst (λ (ps : List Push). IsReading v.board v.entries rests total way.place ps) (sym items) more);
       few = (let long = ap length items in let one = length-append read (way.push ∷ []) in omega (arith, long, one));

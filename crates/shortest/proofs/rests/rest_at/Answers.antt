@@ -29,7 +29,8 @@ returns-then-are_on_goals-clause-rest c = λ k m s here sum.
     let v = c.args.states.now in
     let from = c.at-from.result in
     let top = c.most.ensures in
-    let solved = subst (λ (b : Board). IsSolved b from.state) c.level.ensures ((c.are_on_goals.ensures from.state c.boxes.ensures.squares).0 c.if-are_on_goals.true) in
+    let solved = subst (λ (b : Board). IsSolved b from.state) c.level.ensures
+    ((c.are_on_goals.ensures from.state c.boxes.ensures.squares).0 c.if-are_on_goals.true) in
     rest_same v.board v.entries v.most c.args.place from.pushes k from.state s (Some 0) c.at-from.ensures here
     (rest_last v.board v.most from.pushes from.state (Some 0) (omega (arith, top, c.if-from-most.false)) (rest_solved v.board from.state solved)) m sum
 

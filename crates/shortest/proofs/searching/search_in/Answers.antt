@@ -10,5 +10,6 @@ best_of-requires-clause-listing c =
 pub returns : goal.returns
 returns c =
     let board = c.args.level.now in
-    let (done, listing, more) = subst (λ (b : Bool). EndsListing board c.args.pushes c.args.limit c.list_states.new.listed b) c.if-whole.false c.in_ok-whole.ensures in
+    let (done, listing, more) = subst (λ (b : Bool). EndsListing board c.args.pushes c.args.limit c.list_states.new.listed b)
+    c.if-whole.false c.in_ok-whole.ensures in
     has_more_states board c.args.pushes c.args.limit done c.list_states.new.listed.entries listing.listed c.tell.ensures more

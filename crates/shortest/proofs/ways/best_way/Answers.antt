@@ -18,7 +18,9 @@ pub possible_pushes-requires-clause-room : goal.possible_pushes-requires-clause-
 possible_pushes-requires-clause-room c = c.requires.size ∙ sym (ap (λ (b : Board). length b.cells) c.level.ensures)
 
 pub returns-clause-way : goal.returns-clause-way
-returns-clause-way c = ways_if c.args.states.now.board c.args.states.now.entries c.args.rests.now c.args.from.now.pushes c.args.from.now.state c.loop-index.best c.loop-index.invariant.ways
+returns-clause-way c =
+    ways_if c.args.states.now.board c.args.states.now.entries c.args.rests.now
+    c.args.from.now.pushes c.args.from.now.state c.loop-index.best c.loop-index.invariant.ways
 
 pub returns-clause-rest : goal.returns-clause-rest
 returns-clause-rest c = λ m sum.
@@ -37,7 +39,8 @@ way_by-way-requires-clause-possible c =
     let same = ap length c.deref.ensures.0 in
     let long = c.len-index-end.ensures.value in
     all.each c.loop-index.index c.index-deref-index.result
-    (read_push c.deref.result.now items c.loop-index.index c.index-deref-index.result c.deref.ensures.0 (omega (arith, same, long, c.loop-index-test.true)) c.index-deref-index.is)
+    (read_push c.deref.result.now items c.loop-index.index c.index-deref-index.result c.deref.ensures.0
+    (omega (arith, same, long, c.loop-index-test.true)) c.index-deref-index.is)
 
 pub loop-index-preserved : goal.loop-index-preserved
 loop-index-preserved c =
@@ -49,11 +52,14 @@ loop-index-preserved c =
     let p = c.index-deref-index.result in
     let same = ap length c.deref.ensures.0 in
     let long = c.len-index-end.ensures.value in
-    let here = read_push c.deref.result.now items c.loop-index.index p c.deref.ensures.0 (omega (arith, same, long, c.loop-index-test.true)) c.index-deref-index.is in
+    let here = read_push c.deref.result.now items c.loop-index.index p c.deref.ensures.0
+    (omega (arith, same, long, c.loop-index-test.true)) c.index-deref-index.is in
     record {
       size = was.size;
       ready = c.way_by-way.ensures.ready;
-      ways = ways_more v.board v.entries c.args.rests.now k s c.loop-index.best c.way_by-way.result c.lesser-best.result c.lesser-best.ensures.one was.ways c.way_by-way.ensures.way;
-      least = λ m sum. least_more v.board m s items c.loop-index.index p (moves_of c.loop-index.best) (moves_of c.way_by-way.result) (moves_of c.lesser-best.result) here
+      ways = ways_more v.board v.entries c.args.rests.now k s c.loop-index.best c.way_by-way.result
+          c.lesser-best.result c.lesser-best.ensures.one was.ways c.way_by-way.ensures.way;
+      least = λ m sum. least_more v.board m s items c.loop-index.index p
+          (moves_of c.loop-index.best) (moves_of c.way_by-way.result) (moves_of c.lesser-best.result) here
           c.lesser-best.ensures.first c.lesser-best.ensures.second (was.least m sum) (c.way_by-way.ensures.least m sum);
     }

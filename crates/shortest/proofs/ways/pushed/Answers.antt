@@ -19,9 +19,11 @@ push-requires-clause-free c =
 
 pub returns-clause-after : goal.returns-clause-after
 returns-clause-after c =
-    pushed_is c.args.level.now c.args.level.now c.args.state.now c.copy-after.result c.push.new.self c.args.push c.next.result refl c.copy-after.ensures c.next.ensures c.push.ensures
+    pushed_is c.args.level.now c.args.level.now c.args.state.now c.copy-after.result c.push.new.self c.args.push c.next.result
+    refl c.copy-after.ensures c.next.ensures c.push.ensures
 
 pub returns-clause-fits : goal.returns-clause-fits
 returns-clause-fits c = subst (FitsLevel c.args.level.now)
-    (sym (pushed_is c.args.level.now c.args.level.now c.args.state.now c.copy-after.result c.push.new.self c.args.push c.next.result refl c.copy-after.ensures c.next.ensures c.push.ensures))
+    (sym (pushed_is c.args.level.now c.args.level.now c.args.state.now c.copy-after.result c.push.new.self c.args.push c.next.result
+    refl c.copy-after.ensures c.next.ensures c.push.ensures))
     (after_push_fits c.args.level.now c.args.state.now c.args.push c.requires.fits c.requires.possible)

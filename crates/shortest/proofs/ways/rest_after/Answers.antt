@@ -43,7 +43,8 @@ returns-then-there-from-clause-none c = λ m sum.
     let p = c.args.push in
     let after = subst (λ (b : Board). c.pushed-after.result ≡ after_push b s p) c.level.ensures c.pushed-after.ensures.after in
     let (y, at_y, there) = c.in-Some.ensures in
-    let same = (one_at v.entries c.in-Some.place y.pushes c.at-there.result.pushes y.position c.at-there.result.state (y, at_y, refl, refl) c.at-there.ensures).1 in
+    let same = (one_at v.entries c.in-Some.place y.pushes c.at-there.result.pushes y.position c.at-there.result.state
+    (y, at_y, refl, refl) c.at-there.ensures).1 in
     other_layer v c.args.rests.now c.args.from.now.pushes s c.tell.ensures c.requires.onward p m c.in-Some.place y c.requires.possible at_y (there ∙ after)
     (λ e. omega (arith, c.if-there-from.true, e, same)) sum
 
@@ -72,9 +73,11 @@ returns-in_default-rests-clause-none c = λ m sum.
     let (y, at_y, there) = c.in-Some.ensures in
     let lt = slice_get_within v.entries c.in-Some.place y at_y in
     let many = c.requires.onward.known.many in
-    let same = (one_at v.entries c.in-Some.place y.pushes c.at-there.result.pushes y.position c.at-there.result.state (y, at_y, refl, refl) c.at-there.ensures).1 in
+    let same = (one_at v.entries c.in-Some.place y.pushes c.at-there.result.pushes y.position c.at-there.result.state
+    (y, at_y, refl, refl) c.at-there.ensures).1 in
     no_rest v c.args.rests.now c.args.from.now.pushes s c.tell.ensures c.requires.onward p m c.in-Some.place y at_y (there ∙ after)
-    (omega (arith, c.if-there-from.false, same)) (slice_get-get_or c.args.rests.now c.in-Some.place _ (omega (arith, lt, many)) ∙ ap Some c.in_default-rests.is) sum
+    (omega (arith, c.if-there-from.false, same))
+    (slice_get-get_or c.args.rests.now c.in-Some.place _ (omega (arith, lt, many)) ∙ ap Some c.in_default-rests.is) sum
 
 pub returns-clause-leads : goal.returns-clause-leads
 returns-clause-leads c =
@@ -85,7 +88,8 @@ returns-clause-leads c =
     let (y, at_y, there) = c.in-Some.ensures in
     let lt = slice_get_within v.entries c.in-Some.place y at_y in
     let many = c.requires.onward.known.many in
-    let same = (one_at v.entries c.in-Some.place y.pushes c.at-there.result.pushes y.position c.at-there.result.state (y, at_y, refl, refl) c.at-there.ensures).1 in
+    let same = (one_at v.entries c.in-Some.place y.pushes c.at-there.result.pushes y.position c.at-there.result.state
+    (y, at_y, refl, refl) c.at-there.ensures).1 in
     record {
       entry = y;
       at = at_y;

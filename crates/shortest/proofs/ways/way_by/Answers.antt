@@ -10,7 +10,8 @@ pub returns-in_default-clause-least : goal.returns-in_default-clause-least
 returns-in_default-clause-least c = λ m sum.
     let v = c.args.states.now in
     let s = c.args.from.now.state in
-    least_none v.board m s c.args.push (onward_fits v c.args.rests.now c.args.from.now.pushes s c.tell.ensures c.requires.onward).scene (c.in_default.ensures.none m sum)
+    least_none v.board m s c.args.push (onward_fits v c.args.rests.now c.args.from.now.pushes s c.tell.ensures c.requires.onward).scene
+    (c.in_default.ensures.none m sum)
 
 pub next-behind-requires : goal.next-behind-requires
 next-behind-requires c =
@@ -30,7 +31,8 @@ pub overflow_add-result-2 : goal.overflow_add-result-2
 overflow_add-result-2 c =
     let v = c.args.states.now in
     let s = c.args.from.now.state in
-    let small = rest_small v c.args.rests.now c.args.from.now.pushes s c.tell.ensures c.requires.onward c.args.push c.in-Some.place c.in-Some.rest c.in-Some.ensures.leads in
+    let small = rest_small v c.args.rests.now c.args.from.now.pushes s c.tell.ensures c.requires.onward
+    c.args.push c.in-Some.place c.in-Some.rest c.in-Some.ensures.leads in
     let walk = c.from.ensures in
     let short : c.length_to-walk.result < 4294967296 = search rules in
     omega (arith, small, walk, short)
@@ -42,7 +44,8 @@ returns-clause-least c = λ m sum.
     let p = c.args.push in
     let scene = (onward_fits v c.args.rests.now c.args.from.now.pushes s c.tell.ensures c.requires.onward).scene in
     let length = subst (λ (b : Board). IsWalkLength b s (next b p.square (opposite p.dir)) c.length_to-walk.result) c.level-level.ensures
-    (subst (λ (q : ℕ). IsWalkLength c.level-level.result.now s q c.length_to-walk.result) (c.next-behind.ensures ∙ ap (next c.level-level.result.now p.square) c.opposite.ensures) c.length_to-walk.ensures.length) in
+    (subst (λ (q : ℕ). IsWalkLength c.level-level.result.now s q c.length_to-walk.result)
+    (c.next-behind.ensures ∙ ap (next c.level-level.result.now p.square) c.opposite.ensures) c.length_to-walk.ensures.length) in
     let walk = c.from.ensures in
     least_some v.board m s p c.length_to-walk.result c.in-Some.rest _ scene length
     (rest_there v c.args.rests.now c.args.from.now.pushes s c.tell.ensures c.requires.onward p c.in-Some.place c.in-Some.rest m sum c.in-Some.ensures.leads)
@@ -54,7 +57,8 @@ returns-clause-way c =
     let s = c.args.from.now.state in
     let p = c.args.push in
     let length = subst (λ (b : Board). IsWalkLength b s (next b p.square (opposite p.dir)) c.length_to-walk.result) c.level-level.ensures
-    (subst (λ (q : ℕ). IsWalkLength c.level-level.result.now s q c.length_to-walk.result) (c.next-behind.ensures ∙ ap (next c.level-level.result.now p.square) c.opposite.ensures) c.length_to-walk.ensures.length) in
+    (subst (λ (q : ℕ). IsWalkLength c.level-level.result.now s q c.length_to-walk.result)
+    (c.next-behind.ensures ∙ ap (next c.level-level.result.now p.square) c.opposite.ensures) c.length_to-walk.ensures.length) in
     let walk = c.from.ensures in
     record {
       walk = c.length_to-walk.result;

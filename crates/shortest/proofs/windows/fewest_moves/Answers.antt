@@ -1,4 +1,4 @@
-use Rattle.shortest.proofs.Pieces.{some_has}
+use Rattle.shortest.proofs.lemmas.Fewest.{some_has}
 use Rattle.shortest.proofs.windows.fewest_moves.Goals as goal
 
 pub fewest_moves_by-requires-clause-some : goal.fewest_moves_by-requires-clause-some

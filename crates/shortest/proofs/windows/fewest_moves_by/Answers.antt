@@ -1,6 +1,6 @@
 -- A search for two pushes less shows that none has fewer.
 use Rattle.std.proofs.Common.{arith}
-use Rattle.shortest.proofs.Pieces.{none_has_fewer}
+use Rattle.shortest.proofs.lemmas.Fewest.{none_has_fewer}
 use Rattle.shortest.proofs.windows.fewest_moves_by.Goals as goal
 
 pub search_moves-requires-clause-fewest : goal.search_moves-requires-clause-fewest

@@ -12,7 +12,8 @@ best_solution-requires-clause-fewest g c κs within =
 
 pub returns-in_ok-best-in-Least : goal.returns-in_ok-best-in-Least
 returns-in_ok-best-in-Least g c =
-    let found = least_of c.args.config.cap c.args.config.limit c.args.level.now c.args.outcome c.in-Least.moves c.in-Least.pushes c.requires.outcome c.in-Least.is in
+    let found = least_of c.args.config.cap c.args.config.limit c.args.level.now c.args.outcome c.in-Least.moves c.in-Least.pushes
+    c.requires.outcome c.in-Least.is in
     finds_least c.args.config.moves c.args.config.cap c.args.config.limit c.args.level.now c.in-Least.moves c.in-Least.pushes c.in_ok-best-in-Least.best found
     c.in_ok-best-in-Least.ensures.best c.in_ok-best-in-Least.ensures.pushes
 

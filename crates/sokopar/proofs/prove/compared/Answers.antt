@@ -24,5 +24,6 @@ returns c =
     judged_beaten request.moves request.limit c.args.level.now given.pushes given.moves best c.beaten.result
     (record {
       fewest = (c.requires.best.0, c.requires.fewest);
-      claim = claim_fewest request.moves request.limit c.args.level.now given.pushes (length moves) (length moves) c.requires.wanted c.requires.best.1 (omega arith);
+      claim = claim_fewest request.moves request.limit c.args.level.now given.pushes (length moves) (length moves)
+          c.requires.wanted c.requires.best.1 (omega arith);
     }) (inr (refl, refl, fewer)) c.beaten.ensures

@@ -1,6 +1,7 @@
 -- A search for two pushes less decides, and below two pushes none is needed.
 use Rattle.std.proofs.Common.{arith, Some}
-use Rattle.sokopar.proofs.Judging.{judged_limit, least_of, none_has_fewer}
+use Rattle.shortest.proofs.lemmas.Fewest.{none_has_fewer}
+use Rattle.sokopar.proofs.Judging.{judged_limit, least_of}
 use Rattle.sokopar.proofs.prove.judged.Goals as goal
 
 pub with_fewest_pushes-requires-clause-fewest : goal.with_fewest_pushes-requires-clause-fewest

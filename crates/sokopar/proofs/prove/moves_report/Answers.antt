@@ -1,5 +1,6 @@
 -- The verdict is that of the letters; where it is that they solve the level, they write a solution.
-use Rattle.sokopar.proofs.Judging.{few_pushes, of_solved, some_has}
+use Rattle.shortest.proofs.lemmas.Fewest.{some_has}
+use Rattle.sokopar.proofs.Judging.{few_pushes, of_solved}
 use Rattle.sokopar.proofs.prove.moves_report.Goals as goal
 
 pub judged-requires-clause-some : goal.judged-requires-clause-some
@@ -11,5 +12,6 @@ judged-requires-clause-few g c κs within =
     few_pushes c.args.level.now c.args.moves.now c.in_ok-verdict.verdict c.in-Solved.pushes c.in-Solved.moves c.in-Solved.is c.in_ok-verdict.ensures c.requires
 
 pub returns-in-Solved : goal.returns-in-Solved
-returns-in-Solved g c = of_solved c.args.request.moves c.args.request.limit c.args.level.now c.args.moves.now c.in_ok-verdict.verdict c.in-Solved.pushes c.in-Solved.moves
+returns-in-Solved g c = of_solved c.args.request.moves c.args.request.limit c.args.level.now c.args.moves.now
+    c.in_ok-verdict.verdict c.in-Solved.pushes c.in-Solved.moves
     c.judged.result c.in-Solved.is c.in_ok-verdict.ensures c.judged.ensures

@@ -4,7 +4,8 @@ use Rattle.sokopar.proofs.Listings.{stopped_at, text_at}
 use Rattle.sokopar.proofs.prove.prove_in.Goals as goal
 
 pub returns-clause-ok : goal.returns-clause-ok
-returns-clause-ok g c = text_at (IsProofOf c.args.request.moves c.args.request.limit) c.args.bytes.now c.args.request.number c.in_ok-chosen.chosen _ _ c.prove_level.result
+returns-clause-ok g c = text_at (IsProofOf c.args.request.moves c.args.request.limit) c.args.bytes.now c.args.request.number
+    c.in_ok-chosen.chosen _ _ c.prove_level.result
     c.in_ok-chosen.ensures c.prove_level.ensures.ok
 
 pub returns-clause-err : goal.returns-clause-err

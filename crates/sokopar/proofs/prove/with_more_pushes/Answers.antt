@@ -9,4 +9,5 @@ returns g c =
     let given = c.args.given in
     let best = c.in_ok-best.best in
     let fewer : best.pushes < given.pushes = omega (arith, c.in_ok-best.ensures.pushes, c.requires.fewer) in
-    judged_beaten request.moves request.limit c.args.level.now given.pushes given.moves best c.beaten.result c.in_ok-best.ensures.best (inl fewer) c.beaten.ensures
+    judged_beaten request.moves request.limit c.args.level.now given.pushes given.moves best c.beaten.result
+    c.in_ok-best.ensures.best (inl fewer) c.beaten.ensures

@@ -1,10 +1,10 @@
 use Rattle.std.proofs.Common.{◌≡◌, ◌<◌, length, get_or, set, sym, ap, subst, ◌∙◌, arith}
 use Rattle.std.specs.Prelude.{slice_get}
-use Rattle.std.proofs.lemmas.List.{set-get_or}
+use Rattle.std.proofs.lemmas.List.{set-get_or, take_all}
 use Rattle.std.proofs.lemmas.Option.{same_Some, slice_get-get_or, slice_get_within}
 use Rattle.layers.specs.BookView.{AreLawfulBooks, IsLawfulBook}
 use Rattle.layers.specs.Holding.{all_held}
-use Rattle.solo.proofs.Counting.{held_few, held_more, lawful_more, take_whole}
+use Rattle.solo.proofs.Counting.{held_few, held_more, lawful_more}
 use Rattle.solo.proofs.rest.count_all.Goals as goal
 
 pub loop-index-preserved : goal.loop-index-preserved
@@ -47,4 +47,4 @@ returns-clause-lawful c =
 pub returns-clause-count : goal.returns-clause-count
 returns-clause-count c =
     let before = c.args.books.now in let index = c.loop-index.index in
-    c.loop-index.invariant.count ∙ ap all_held (take_whole before index (omega (arith, c.loop-index-test.false)) ∙ sym c.loop-index.invariant.same)
+    c.loop-index.invariant.count ∙ ap all_held (take_all index before (omega (arith, c.loop-index-test.false)) ∙ sym c.loop-index.invariant.same)

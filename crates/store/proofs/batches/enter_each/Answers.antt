@@ -17,7 +17,7 @@ enter_at-requires g c =
     let o = c.index-offers-nth.result in let index = slice_index_or c.args.indices.now i 0 in
     let read = slice_get_read os (length os) i o refl c.loop-nth-test.true c.index-offers-nth.is in
     let stands : IsIndexOf c.loop-nth.table.entries index o.0 = λ some.
-    stays c.args.start c.args.table.now.entries c.loop-nth.table.entries (take i os) index o.0 c.requires.found.found c.loop-nth.invariant.2.found
+    stays c.args.start c.args.table.now.entries c.loop-nth.table.entries (take i os) index o.0 c.requires.found c.loop-nth.invariant.2
     c.loop-nth.invariant.3 c.loop-nth.invariant.0 (c.requires.indices.each i o read some) in search (rules, stands)
 
 pub loop-nth-preserved : goal.loop-nth-preserved

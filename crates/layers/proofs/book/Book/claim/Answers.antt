@@ -1,11 +1,14 @@
-use Rattle.std.proofs.Common.{◌≡◌, ℕ, ◌+◌, ◌<◌, Bool, List, false, true, length, slice_get, set, Some, ap, sym, refl, subst, ◌∙◌, arith}
+use Rattle.std.proofs.Common.{◌≡◌, ℕ, ◌+◌, ◌<◌, Bool, List, false, true, length, slice_get, set, None, Some, inr, ap, sym, refl, subst, ◌∙◌, arith}
 use Rattle.std.proofs.lemmas.Option.{slice_get-get_or}
 use Rattle.layers.specs.inside.BookInside.{book_view, IsSoundBook}
 use Rattle.layers.specs.BookView.{IsLawfulBook}
-use Rattle.layers.specs.Books.{IsTaken, IsFreeRank}
+use Rattle.layers.specs.Books.{ClaimAnswer, IsTaken, IsFreeRank}
 use Rattle.layers.proofs.lemmas.BookEvents.{lawful_claim}
 use Rattle.layers.proofs.lemmas.BookFields.{claimed-taken, marks_long}
 use Rattle.layers.proofs.book.Book.claim.Goals as goal
+
+pub returns-then-are_all_set : goal.returns-then-are_all_set
+returns-then-are_all_set c = subst (λ v. ClaimAnswer v None v) c.self.view_is ((λ r lt. inr (c.if-are_all_set.ensures r lt)), refl)
 
 pub set-requires : goal.set-requires
 set-requires c =

@@ -9,8 +9,8 @@ copy_from-requires g c =
       (
         c.self.invariant.0,
         (
-          omega (arith, c.requires, seen_long a.boxes a.squares a.start a.table.entries a.pending.items c.args.self.now c.self.invariant.2.found c.self.view_is),
-          (c.self.invariant.2.found.within, omega (arith, c.self.invariant.0.0, c.self.invariant.1.capacity)),
+          omega (arith, c.requires, seen_long a.boxes a.squares a.start a.table.entries a.pending.items c.args.self.now c.self.invariant.2 c.self.view_is),
+          (c.self.invariant.2.within, omega (arith, c.self.invariant.0.0, c.self.invariant.1.capacity)),
         ),
       ),
     )

@@ -1,0 +1,2 @@
+-- The lemmas that the proofs of upper crates cite.
+pub mod Fewest
