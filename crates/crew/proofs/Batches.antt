@@ -10,7 +10,7 @@ use Rattle.claims.specs.declared.views.Hand.{Hand}
 use Rattle.crew.specs.Work.{DrawEnds, IsOfLayer}
 use Rattle.crew.specs.declared.end.End.{End}
 use Rattle.crew.specs.declared.end.End.TheVariants.{Drained, Foreign, NoPlace, Refused, Stopped}
-use Rattle.crew.specs.inside.Batches.{AreDrawn, AreExpanded, AreOfLayer, AreRanks, IsBatch, IsOfRank}
+use Rattle.crew.specs.inside.Batches.{AreDrawn, AreExpanded, AreOfLayer, AreRanks, IsBatch, IsParcelOfRank}
 use Rattle.crew.specs.inside.Ends.{HasEnded}
 
 -- ---- one more at the end
@@ -54,7 +54,7 @@ drawn_long layer before after count ranks so =
 
 -- one more rank is expanded
 pub expanded_more : (layer : LayerView) (ranks : List ℕ) (place rank : ℕ) (parcels : List ParcelView) (parcel : ParcelView) → place < length ranks →
-    place < length parcels → get_or ranks place 0 ≡ rank → IsOfRank layer rank parcel → AreExpanded layer ranks place parcels →
+    place < length parcels → get_or ranks place 0 ≡ rank → IsParcelOfRank layer rank parcel → AreExpanded layer ranks place parcels →
     AreExpanded layer ranks (place + 1) (set parcels place parcel)
 expanded_more layer ranks place rank parcels parcel within room at it so =
     let rank_of : ParcelView → ℕ = λ p. p.rank in let next : place + 1 ≡ suc place = omega arith in

@@ -8,21 +8,21 @@ use Rattle.claims.specs.declared.views.Hand.{Hand}
 use Rattle.crew.specs.Work.{told, LetsGoOn, MayAnswerEach, WereAccepted, AsksTheGate}
 use Rattle.crew.specs.declared.end.End.{End}
 use Rattle.crew.specs.declared.end.End.TheVariants.{Drained, Refused, Stopped, Foreign, NoPlace}
-use Rattle.crew.specs.inside.Events.{counted, IsTold, GoesOn, EndsAtOnce, DrawsAtLast, GoesOnUntil, IsCutOff, DrawsUntil, HasLeft}
+use Rattle.crew.specs.inside.Events.{counted_event, IsTold, MayGoOn, EndsAtOnce, DrawsAtLast, GoesOnUntil, IsCutOff, DrawsUntil, HasLeft}
 
 -- ---- one after the other
 
 -- events, and further ones
-pub goes_twice : (may : ℕ → Bool → Bool) (nth j k all last after : ℕ) → all ≡ j + k → GoesOn may nth j last → GoesOn may last k after → GoesOn may nth all after
+pub goes_twice : (may : ℕ → Bool → Bool) (nth j k all last after : ℕ) → all ≡ j + k → MayGoOn may nth j last → MayGoOn may last k after → MayGoOn may nth all after
 goes_twice may nth j zero all last after sum on same =
     let e : j ≡ all = omega (arith, sum) in
-    subst (λ n. GoesOn may nth n after) e (subst (GoesOn may nth j) (sym same) on)
+    subst (λ n. MayGoOn may nth n after) e (subst (MayGoOn may nth j) (sym same) on)
 goes_twice may nth j (suc k) all last after sum on (mid, more, it) =
     let e : suc (j + k) ≡ all = omega (arith, sum) in
-    subst (λ n. GoesOn may nth n after) e (mid, goes_twice may nth j k (j + k) last mid refl on more, it)
+    subst (λ n. MayGoOn may nth n after) e (mid, goes_twice may nth j k (j + k) last mid refl on more, it)
 
 -- events, and further ones of a worker that then ends
-pub goes_until : (may : ℕ → Bool → Bool) (nth j k all last after : ℕ) (end : End) → all ≡ j + k → GoesOn may nth j last → GoesOnUntil may last k after end →
+pub goes_until : (may : ℕ → Bool → Bool) (nth j k all last after : ℕ) (end : End) → all ≡ j + k → MayGoOn may nth j last → GoesOnUntil may last k after end →
     GoesOnUntil may nth all after end
 goes_until may nth j k all last after Stopped sum on (before, mid, is, more, it) =
     (j + before, mid, omega (arith, sum, is), goes_twice may nth j before (j + before) last mid refl on more, it)
@@ -32,7 +32,7 @@ goes_until may nth j k all last after Foreign sum on more = goes_twice may nth j
 goes_until may nth j k all last after NoPlace sum on more = absurd more
 
 -- one event more
-pub goes_once : (may : ℕ → Bool → Bool) (nth j all last after : ℕ) → all ≡ j + 1 → GoesOn may nth j last → IsTold may last true after → GoesOn may nth all after
+pub goes_once : (may : ℕ → Bool → Bool) (nth j all last after : ℕ) → all ≡ j + 1 → MayGoOn may nth j last → IsTold may last true after → MayGoOn may nth all after
 goes_once may nth j all last after sum on it = goes_twice may nth j 1 all last after sum on (last, refl, it)
 
 -- an end at once, after no event or one
@@ -44,7 +44,7 @@ ends_at_once may nth after Foreign it = record { events = 0; few = omega arith; 
 ends_at_once may nth after NoPlace it = absurd it
 
 -- events, and then an end
-pub cut_off : (may : ℕ → Bool → Bool) (j k most nth last after : ℕ) (end : End) → j + k ≤ most → GoesOn may nth j last → IsCutOff may k last after end →
+pub cut_off : (may : ℕ → Bool → Bool) (j k most nth last after : ℕ) (end : End) → j + k ≤ most → MayGoOn may nth j last → IsCutOff may k last after end →
     IsCutOff may most nth after end
 cut_off may j k most nth last after end few on more = record {
   events = j + more.events;
@@ -54,7 +54,7 @@ cut_off may j k most nth last after end few on more = record {
 
 -- ranks are drawn, and then a draw ends a worker that is not drained
 pub draws_until : (may : ℕ → Bool → Bool) (hand mid later : Hand) (drawn nth last after : ℕ) (end : End) → ¬ (end ≡ Drained) →
-    length mid.numbers ≡ length hand.numbers + drawn → GoesOn may nth drawn last → DrawsAtLast may mid last later after end →
+    length mid.numbers ≡ length hand.numbers + drawn → MayGoOn may nth drawn last → DrawsAtLast may mid last later after end →
     DrawsUntil may hand nth later after end
 draws_until may hand mid later drawn nth last after Stopped other many on it =
     record { drawn = suc drawn; draws = omega (arith, many, it.0); until = (drawn, last, refl, on, it.1) }
@@ -66,25 +66,25 @@ draws_until may hand mid later drawn nth last after NoPlace other many on it = a
 -- ---- what the gate was told
 
 -- one number more
-told_more : (n : ℕ) → counted (told n) ≡ told (suc n)
+told_more : (n : ℕ) → counted_event (told n) ≡ told (suc n)
 told_more n = elim (cases_lt n (2 ^ 64 - 1)) [
   | inl less ↦ (
       let few : n ≤ 2 ^ 64 - 1 = omega (arith, less) in let same : told n ≡ n = min-eq_left few in
       let next : n + 1 ≡ suc n = omega arith in
-      ap counted same ∙ ap (λ k. min k (2 ^ 64 - 1)) next)
+      ap counted_event same ∙ ap (λ k. min k (2 ^ 64 - 1)) next)
   | inr more ↦ (
       let many : 2 ^ 64 - 1 ≤ n = omega (arith, more) in let most : told n ≡ 2 ^ 64 - 1 = min-eq_right many in
       let beyond : 2 ^ 64 - 1 ≤ suc n = omega (arith, more) in let next : told (suc n) ≡ 2 ^ 64 - 1 = min-eq_right beyond in
-      let above : 2 ^ 64 - 1 ≤ 2 ^ 64 - 1 + 1 = omega arith in let top : counted (2 ^ 64 - 1) ≡ 2 ^ 64 - 1 = min-eq_right above in
-      ap counted most ∙ top ∙ sym next)
+      let above : 2 ^ 64 - 1 ≤ 2 ^ 64 - 1 + 1 = omega arith in let top : counted_event (2 ^ 64 - 1) ≡ 2 ^ 64 - 1 = min-eq_right above in
+      ap counted_event most ∙ top ∙ sym next)
 ]
 
 -- the count, and what the gate may have answered
-goes_told : (may : ℕ → Bool → Bool) (events after : ℕ) → GoesOn may 0 events after → (after ≡ told events) × LetsGoOn may events
+goes_told : (may : ℕ → Bool → Bool) (events after : ℕ) → MayGoOn may 0 events after → (after ≡ told events) × LetsGoOn may events
 goes_told may zero after same = (same, λ n some few. absurd (omega (arith, some, few)))
 goes_told may (suc events) after (last, on, it) =
     let before = goes_told may events last on in
-    let is : after ≡ told (suc events) = it.count ∙ ap counted before.0 ∙ told_more events in (
+    let is : after ≡ told (suc events) = it.count ∙ ap counted_event before.0 ∙ told_more events in (
       is,
       λ n some few. elim (cases_lt n (suc events)) [
         | inl less ↦ before.1 n some (omega (arith, less))
@@ -96,7 +96,7 @@ goes_told may (suc events) after (last, on, it) =
 answers_until : (may : ℕ → Bool → Bool) (events after : ℕ) (end : End) → GoesOnUntil may 0 events after end → MayAnswerEach may events end
 answers_until may events after Stopped (before, last, is, on, it) =
     let told_all = goes_told may before last on in
-    let e : after ≡ told events = it.count ∙ ap counted told_all.0 ∙ told_more before ∙ ap told (sym is) in
+    let e : after ≡ told events = it.count ∙ ap counted_event told_all.0 ∙ told_more before ∙ ap told (sym is) in
     (before, is, told_all.1, subst (λ k. may k false ≡ true) e it.may)
 answers_until may events after Drained it = absurd it
 answers_until may events after (Refused refusal) it = (goes_told may events after it).1
@@ -131,12 +131,12 @@ pub has_none : (may : ℕ → Bool → Bool) (books : ℕ) (hand : Hand) → Has
 has_none may books hand = record {
   done = 0;
   all = omega arith;
-  on = let e : 0 ≡ 0 + 0 + 0 * books = omega arith in subst (λ n. GoesOn may 0 n 0) e refl;
+  on = let e : 0 ≡ 0 + 0 + 0 * books = omega arith in subst (λ n. MayGoOn may 0 n 0) e refl;
 }
 
 -- ranks are drawn
 pub has_drawn : (may : ℕ → Bool → Bool) (books drawn nth after : ℕ) (hand mid later : Hand) → length later.numbers ≡ length mid.numbers + drawn →
-    HasLeft may books 0 hand mid nth → GoesOn may nth drawn after → HasLeft may books drawn hand later after
+    HasLeft may books 0 hand mid nth → MayGoOn may nth drawn after → HasLeft may books drawn hand later after
 has_drawn may books drawn nth after hand mid later more has it = record {
   done = has.done;
   all = omega (arith, more, has.all);
@@ -146,7 +146,7 @@ has_drawn may books drawn nth after hand mid later more has it = record {
 
 -- those that are left are handed back
 pub has_handed : (may : ℕ → Bool → Bool) (books left many nth after : ℕ) (hand later : Hand) → many ≡ books * left →
-    HasLeft may books left hand later nth → GoesOn may nth many after → HasLeft may books 0 hand later after
+    HasLeft may books left hand later nth → MayGoOn may nth many after → HasLeft may books 0 hand later after
 has_handed may books left many nth after hand later each has it = record {
   done = has.done + left;
   all = omega (arith, has.all);
@@ -165,7 +165,7 @@ asks_drained may books after hand later has = record {
   parcels = refl;
   answers =
       let e : has.done + 0 + has.done * books ≡ has.done + has.done * books = omega arith in
-      (goes_told may (has.done + has.done * books) after (subst (λ n. GoesOn may 0 n after) e has.on)).1;
+      (goes_told may (has.done + has.done * books) after (subst (λ n. MayGoOn may 0 n after) e has.on)).1;
 }
 
 -- the worker goes on, and then ends, and is not drained

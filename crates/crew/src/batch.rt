@@ -2,9 +2,9 @@
 ghost use Rattle.std.specs.Prelude.{◌≡◌, ◌<◌, ◌≤◌, IfErr, IfOk, length, take};
 ghost use Rattle.crew.specs.Work.{EndsWith, IsAtPlace};
 ghost use Rattle.crew.specs.declared.end.End.TheVariants.{Drained};
-ghost use Rattle.crew.specs.inside.Batches.{AreDrawn, AreExpanded, AreRanks, IsBatch, IsOfRank};
-ghost use Rattle.crew.specs.inside.Ends.{HasEnded, IsReady};
-ghost use Rattle.crew.specs.inside.Events.{DrawsUntil, GoesOn};
+ghost use Rattle.crew.specs.inside.Batches.{AreDrawn, AreExpanded, AreRanks, IsBatch, IsParcelOfRank};
+ghost use Rattle.crew.specs.inside.Ends.{HasEnded, IsEquipped};
+ghost use Rattle.crew.specs.inside.Events.{DrawsUntil, MayGoOn};
 
 use crate::end::End;
 use crate::gate::Gate;
@@ -83,20 +83,20 @@ pub(crate) fn draw_batch<'a, R: Wait, G: Gate>(
     nth: &mut u64,
     parcels: &mut [Parcel<'a>],
 ) -> Result<usize, End>
-    requires ready { IsReady worker.now.shared.now worker.now.number scratch.old drawer.old }
+    requires ready { IsEquipped worker.now.shared.now worker.now.number scratch.old drawer.old }
     requires some { 0 < length parcels.old }
     ensures batch { IfOk result
         (λ count. IsBatch worker.now.shared.now.layer drawer.old.hand (take count parcels.new) drawer.new.hand) }
     ensures fits { IfOk result (λ count. count ≤ length parcels.new) }
     ensures none { IfOk result (λ count. count ≡ 0 → EndsWith worker.now.number drawer.new.hand Drained) }
-    ensures goes_on { IfOk result (λ count. GoesOn (G.may_answer worker.now.gate.now
+    ensures goes_on { IfOk result (λ count. MayGoOn (G.may_answer worker.now.gate.now
         worker.now.shared.now.layer.number worker.now.number) nth.old count nth.new) }
     ensures ends { IfErr result
         (λ end. HasEnded G.may_stop worker.now.shared.now.layer worker.now.shared.now.workers worker.now.number
         drawer.new.hand end) }
     ensures gate { IfErr result (λ end. DrawsUntil (G.may_answer worker.now.gate.now
         worker.now.shared.now.layer.number worker.now.number) drawer.old.hand nth.old drawer.new.hand nth.new end) }
-    ensures ready { IsReady worker.now.shared.now worker.now.number scratch.new drawer.new }
+    ensures ready { IsEquipped worker.now.shared.now worker.now.number scratch.new drawer.new }
 {
     let shared = worker.shared;
     let left = shared.layer.len().saturating_sub(parcels[0].rank());
@@ -118,7 +118,7 @@ fn draw_ranks<R: Wait, G: Gate>(
     ensures drawn { IfOk result
         (λ count. AreDrawn worker.now.shared.now.layer drawer.old.hand count ranks.new drawer.new.hand) }
     ensures all { IfOk result (λ count. count < length ranks.new → EndsWith worker.now.number drawer.new.hand Drained) }
-    ensures goes_on { IfOk result (λ count. GoesOn (G.may_answer worker.now.gate.now
+    ensures goes_on { IfOk result (λ count. MayGoOn (G.may_answer worker.now.gate.now
         worker.now.shared.now.layer.number worker.now.number) nth.old count nth.new) }
     ensures ends { IfErr result
         (λ end. HasEnded G.may_stop worker.now.shared.now.layer worker.now.shared.now.workers worker.now.number
@@ -164,7 +164,7 @@ fn expand_into<'a>(
 )
     requires within { rank < length shared.now.layer.places }
     requires room { scratch.old.size ≡ length shared.now.layer.level.board.cells }
-    ensures of { IsOfRank shared.now.layer rank parcel.new }
+    ensures of { IsParcelOfRank shared.now.layer rank parcel.new }
     ensures size { scratch.new.size ≡ scratch.old.size }
 {
     expand_over_into(shared.problem, shared.layer, rank, scratch, parcel);

@@ -5,7 +5,7 @@ ghost use Rattle.claims.specs.declared.views.Hand.{Hand};
 ghost use Rattle.crew.specs.Work.{IsOfLayer};
 ghost use Rattle.crew.specs.inside.Batches.{AreOfLayer};
 ghost use Rattle.crew.specs.inside.Ends.{HasEnded};
-ghost use Rattle.crew.specs.inside.Events.{IsTold, GoesOn, EndsAtOnce, IsCutOff};
+ghost use Rattle.crew.specs.inside.Events.{IsTold, MayGoOn, EndsAtOnce, IsCutOff};
 ghost use Rattle.crew.specs.inside.Handing.{HandsBack, WasHandedBack};
 
 use crate::end::End;
@@ -26,7 +26,7 @@ pub(crate) fn hand_batch<R: Wait, G: Gate>(
     ensures ends { (hand : Hand) → IfErr result
         (λ end. HasEnded G.may_stop worker.now.shared.now.layer worker.now.shared.now.workers worker.now.number hand
         end) }
-    ensures goes_on { OnOk result (GoesOn (G.may_answer worker.now.gate.now worker.now.shared.now.layer.number
+    ensures goes_on { OnOk result (MayGoOn (G.may_answer worker.now.gate.now worker.now.shared.now.layer.number
         worker.now.number) nth.old (worker.now.shared.now.books * length batch.now) nth.new) }
     ensures gate { IfErr result (λ end. IsCutOff (G.may_answer worker.now.gate.now worker.now.shared.now.layer.number
         worker.now.number) (worker.now.shared.now.books * length batch.now) nth.old nth.new end) }
@@ -49,7 +49,7 @@ fn hand_batch_to<R: Wait, G: Gate>(
     ensures ends { (hand : Hand) → IfErr result
         (λ end. HasEnded G.may_stop worker.now.shared.now.layer worker.now.shared.now.workers worker.now.number hand
         end) }
-    ensures goes_on { OnOk result (GoesOn (G.may_answer worker.now.gate.now worker.now.shared.now.layer.number
+    ensures goes_on { OnOk result (MayGoOn (G.may_answer worker.now.gate.now worker.now.shared.now.layer.number
         worker.now.number) nth.old (length batch.now) nth.new) }
     ensures gate { IfErr result (λ end. IsCutOff (G.may_answer worker.now.gate.now worker.now.shared.now.layer.number
         worker.now.number) (length batch.now) nth.old nth.new end) }

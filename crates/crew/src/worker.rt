@@ -2,7 +2,7 @@ ghost use Rattle.std.specs.Prelude.{◌≡◌, ◌<◌, ◌≤◌, [], ◌∷◌
 ghost use Rattle.claims.specs.declared.views.Hand.{Hand};
 ghost use Rattle.crew.specs.Work.{IsAtPlace, MayEnd, EndsWith, WasAnswered, AsksTheGate};
 ghost use Rattle.crew.specs.inside.Batches.{AreOfLayer};
-ghost use Rattle.crew.specs.inside.Ends.{HasEnded, IsReady};
+ghost use Rattle.crew.specs.inside.Ends.{HasEnded, IsEquipped};
 ghost use Rattle.crew.specs.inside.Events.{IsTold, DrawsAtLast, HasLeft};
 
 use crate::batch::{append_parcels, draw_batch, expand_each};
@@ -104,7 +104,7 @@ fn work_enrolled<'a, R: Wait, G: Gate>(
     scratch: &mut Scratch,
     parcels: &mut Vec<Parcel<'a>>,
 ) -> End
-    requires ready { IsReady worker.now.shared.now worker.now.number scratch.old drawer.old }
+    requires ready { IsEquipped worker.now.shared.now worker.now.number scratch.old drawer.old }
     ensures ends { HasEnded G.may_stop worker.now.shared.now.layer worker.now.shared.now.workers worker.now.number
         drawer.new.hand result }
     ensures gate { AsksTheGate (G.may_answer worker.now.gate.now worker.now.shared.now.layer.number worker.now.number)
@@ -136,7 +136,7 @@ fn by_batches<'a, R: Wait, G: Gate>(
     nth: &mut u64,
     parcels: &mut [Parcel<'a>],
 ) -> End
-    requires ready { IsReady worker.now.shared.now worker.now.number scratch.old drawer.old }
+    requires ready { IsEquipped worker.now.shared.now worker.now.number scratch.old drawer.old }
     requires some { 0 < length parcels.old }
     requires first { AreOfLayer worker.now.shared.now.layer (take 1 parcels.old) }
     ensures ends { HasEnded G.may_stop worker.now.shared.now.layer worker.now.shared.now.workers worker.now.number

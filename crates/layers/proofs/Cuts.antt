@@ -8,7 +8,7 @@ use Rattle.std.specs.Prelude.{slice_get}
 use Rattle.std.specs.List.{list_any}
 use Rattle.std.specs.Option.{option_map}
 use Rattle.std.specs.Map.{lookup}
-use Rattle.layers.specs.inside.BookInside.{cut_at, AreCuts, IsPiece}
+use Rattle.layers.specs.inside.BookInside.{cut_at, AreCuts, IsListPiece}
 use Rattle.successors.specs.Reaching.{total}
 use Rattle.successors.proofs.lemmas.Lists.{sum_by_first, at-push, at_before}
 
@@ -18,7 +18,7 @@ length-cut_at (i ∷ []) xs = refl
 length-cut_at (i ∷ j ∷ js) xs = ap suc (length-cut_at (j ∷ js) xs)
 
 -- the piece that a place begins
-pub cut_piece : {A : Type 0} (starts : List ℕ) (xs : List A) (k p q : ℕ) → IsPiece starts (length xs) k p q →
+pub cut_piece : {A : Type 0} (starts : List ℕ) (xs : List A) (k p q : ℕ) → IsListPiece starts (length xs) k p q →
     get_or (cut_at starts xs) k [] ≡ drop p (take q xs)
 cut_piece [] xs k p q (at, next) = absurd (none-some p at)
 cut_piece (i ∷ []) xs zero p q (at, inl next) = absurd (none-some q next)
@@ -57,13 +57,13 @@ pub past_piece : {A : Type 0} (xs : List A) (p q i : ℕ) → q ≤ p + i → sl
 past_piece xs p q i le = slice_get_past (drop p (take q xs)) i (omega (arith, length-drop p (take q xs), length-take q xs))
 
 -- the place of a piece in the list of the pieces' places
-pub place_in_piece : {A B : Type 0} (f : A → B) (starts : List ℕ) (xs : List A) (k p q i : ℕ) → IsPiece starts (length xs) k p q → p + i < q →
+pub place_in_piece : {A B : Type 0} (f : A → B) (starts : List ℕ) (xs : List A) (k p q i : ℕ) → IsListPiece starts (length xs) k p q → p + i < q →
     slice_get (map f (get_or (cut_at starts xs) k [])) i ≡ option_map f (slice_get xs (p + i))
 place_in_piece f starts xs k p q i piece lt =
     slice_get-map f (get_or (cut_at starts xs) k []) i ∙ ap (λ zs. option_map f (slice_get zs i)) (cut_piece starts xs k p q piece)
     ∙ ap (option_map f) (at_piece xs p q i lt)
 
-pub place_past_piece : {A B : Type 0} (f : A → B) (starts : List ℕ) (xs : List A) (k p q i : ℕ) → IsPiece starts (length xs) k p q → q ≤ p + i →
+pub place_past_piece : {A B : Type 0} (f : A → B) (starts : List ℕ) (xs : List A) (k p q i : ℕ) → IsListPiece starts (length xs) k p q → q ≤ p + i →
     slice_get (map f (get_or (cut_at starts xs) k [])) i ≡ None
 place_past_piece f starts xs k p q i piece le =
     slice_get-map f (get_or (cut_at starts xs) k []) i ∙ ap (λ zs. option_map f (slice_get zs i)) (cut_piece starts xs k p q piece)

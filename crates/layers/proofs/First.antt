@@ -23,7 +23,7 @@ use Rattle.successors.specs.Shares.{share_of}
 use Rattle.layers.specs.BookView.{BookView, IsShareOfLayer, AreBounds, IsLawfulBook}
 use Rattle.store.specs.FoundView.{first_entries}
 use Rattle.layers.specs.inside.BookInside.{cut_at, AreCuts, IsFirst}
-use Rattle.layers.specs.Books.{AreNewInOrder, IsNew}
+use Rattle.layers.specs.Books.{AreNewInOrder, IsNewBook}
 use Rattle.layers.proofs.lemmas.Admissions.{admitted_alike}
 use Rattle.layers.proofs.lemmas.Books.{level_laws}
 use Rattle.successors.proofs.lemmas.Lists.{at-push, sum_by_first}
@@ -246,7 +246,7 @@ module _ (task : Task) (limit workers share shares : ℕ) (starts tallies : List
         within zero p at = omega (arith, same_Some 0 p at)
         within (suc j) p at = absurd (none-some p at)
 
-  pub fresh_new : IsNew task limit workers share shares fresh
+  pub fresh_new : IsNewBook task limit workers share shares fresh
   fresh_new = record {
     made_with = (refl, refl, refl, refl, refl);
     closed = (es, closed_is, layer.0);
@@ -258,8 +258,8 @@ module _ (task : Task) (limit workers share shares : ℕ) (starts tallies : List
 
 -- ---- new books, one share after the other
 pub one_share_more : (task : Task) (limit workers share shares : ℕ) (books : List BookView) (book : BookView) → length books ≡ share →
-    AreNewInOrder task limit workers shares books → IsNew task limit workers share shares book → AreNewInOrder task limit workers shares (books ++ book ∷ [])
+    AreNewInOrder task limit workers shares books → IsNewBook task limit workers share shares book → AreNewInOrder task limit workers shares (books ++ book ∷ [])
 one_share_more task limit workers share shares books book long before last = λ i v at. elim (at-push books book i v at) [
   | inl old ↦ before i v old
-  | inr new ↦ subst (λ k. IsNew task limit workers k shares v) (sym (new.0 ∙ long)) (subst (IsNew task limit workers share shares) (sym new.1) last)
+  | inr new ↦ subst (λ k. IsNewBook task limit workers k shares v) (sym (new.0 ∙ long)) (subst (IsNewBook task limit workers share shares) (sym new.1) last)
 ]

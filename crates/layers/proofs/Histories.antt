@@ -17,7 +17,7 @@ use Rattle.successors.specs.Reaching.{Reaches, IsLayerOf}
 use Rattle.layers.specs.Origins.{HasOrigin}
 use Rattle.successors.specs.ParcelView.{ParcelView, IsParcel}
 use Rattle.layers.specs.BookView.{BookView, HasClosedOrigin, IsShareOfLayer, AreBounds, IsLawfulBook}
-use Rattle.layers.specs.Books.{IsNew, HandBackRefused, after_refusal, with_closed}
+use Rattle.layers.specs.Books.{IsNewBook, HandBackRefused, after_refusal, with_closed}
 use Rattle.layers.specs.Events.{Event, Happens, History, AreMadeAlike, KeepsClosed, CloseAlike}
 use Rattle.layers.specs.Events.Event.{begins, begin_refused, claims, hands_back, hand_back_refused, reopens, closes, close_refused}
 use Rattle.layers.specs.Events.History.{nothing, event}
@@ -112,7 +112,7 @@ first_few task shares share (x ∷ y ∷ es) l =
     absurd (none_before u.0 w.0 u.2 w.2 (l.layer.rise 0 1 x.0 y.0 u.0 w.0 (omega arith) refl refl u.1 w.1))
 
 pub new_lawful : (task : Task) (limit workers share shares : ℕ) (v : BookView) → IsLevel task.board → AreBounds limit workers share shares →
-    IsNew task limit workers share shares v → IsLawfulBook v
+    IsNewBook task limit workers share shares v → IsLawfulBook v
 new_lawful task limit workers share shares v lawful bounds new =
     let m = new.made_with in let c = new.closed in let n = new.nothing in
     let few = first_few task shares share c.0 c.2 in

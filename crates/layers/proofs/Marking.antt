@@ -9,7 +9,7 @@ use Rattle.std.proofs.lemmas.List.Sums.{count_by-le-length}
 use Rattle.std.specs.Prelude.{slice_get}
 use Rattle.grid.specs.Masks.{has_bit, word_count}
 use Rattle.grid.specs.declared.masks.TheConstants.{WORD_BITS}
-use Rattle.layers.specs.inside.Bits.{AreMarks, marks_from, marks_of}
+use Rattle.layers.specs.inside.Bits.{AreRankBits, marks_from, marks_of}
 use Rattle.area.proofs.lemmas.WordSets.{none_set}
 use Rattle.layers.proofs.lemmas.Books.{none_counted}
 use Rattle.successors.proofs.lemmas.Lists.{count-set_true, sum_by_first}
@@ -104,7 +104,7 @@ one_missing (b ∷ bs) lt = go (one_missing bs) b refl
 -- ---- marks on the fields
 
 -- each rank has a bit
-pub enough_words : (words : List ℕ) (len set rank : ℕ) → AreMarks words len set → rank < len → rank < WORD_BITS * length words
+pub enough_words : (words : List ℕ) (len set rank : ℕ) → AreRankBits words len set → rank < len → rank < WORD_BITS * length words
 unfolding word_count
 enough_words words len set rank marks lt = omega (arith, marks.enough, lt)
 
@@ -131,7 +131,7 @@ module _ (words : List ℕ) (len : ℕ) (now : List Bool) (view : marks_of words
   pub told_none : (rank : ℕ) → len ≤ rank → None ≡ slice_get now rank
   told_none rank le = sym (mark_past words 0 len rank le) ∙ ap (λ (bs : List Bool). slice_get bs rank) view
 
-  module _ (count : ℕ) (marks : AreMarks words len count) where
+  module _ (count : ℕ) (marks : AreRankBits words len count) where
     counted : count ≡ count_by (λ (x : Bool). x) now
     counted = marks.counted ∙ ap (count_by (λ (x : Bool). x)) view
 
@@ -166,7 +166,7 @@ module _ (words : List ℕ) (len : ℕ) (now : List Bool) (view : marks_of words
             one_marked words more 0 len rank rank (from_none rank) within_marks (λ q. bits q ∙ ap (λ (ws : List ℕ). has_bit ws q || eqb rank q) same)
             ∙ ap (λ (bs : List Bool). set bs rank true) view
 
-        pub are_more : AreMarks more len (count + 1)
+        pub are_more : AreRankBits more len (count + 1)
         are_more = record {
           enough = long ∙ ap length same ∙ marks.enough;
           counted = let e : count + 1 ≡ suc (count_by (λ (x : Bool). x) now) = omega (arith, counted) in
@@ -174,7 +174,7 @@ module _ (words : List ℕ) (len : ℕ) (now : List Bool) (view : marks_of words
         }
 
 -- none at all
-pub no_words : (words : List ℕ) → words ≡ [] → AreMarks words 0 0
+pub no_words : (words : List ℕ) → words ≡ [] → AreRankBits words 0 0
 unfolding word_count
 no_words words none = record { enough = ap length none; counted = refl }
 
@@ -183,7 +183,7 @@ module _ (words : List ℕ) (many ranks : ℕ) (zeros : words ≡ replicate many
   pub fresh_marks : marks_of words ranks ≡ replicate ranks false
   fresh_marks = no_marks words 0 ranks (λ q. none_set words many q zeros)
 
-  pub are_fresh : many ≡ word_count ranks → AreMarks words ranks 0
+  pub are_fresh : many ≡ word_count ranks → AreRankBits words ranks 0
   are_fresh enough = record {
     enough = ap length zeros ∙ length-replicate {A = ℕ} many 0 ∙ enough;
     counted = sym (ap (count_by (λ (x : Bool). x)) fresh_marks ∙ none_counted ranks);

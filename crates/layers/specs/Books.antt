@@ -36,7 +36,7 @@ use Rattle.store.specs.Entering.{entered}
 -- ---- a new book
 
 -- a new book has closed layer 0 and has begun nothing
-pub record IsNew (task : Task) (limit workers share shares : ℕ) (v : BookView) : Type 0 where
+pub record IsNewBook (task : Task) (limit workers share shares : ℕ) (v : BookView) : Type 0 where
   pub made_with : (v.level ≡ task) × (v.limit ≡ limit) × (v.workers ≡ workers) × (v.share ≡ share) × (v.shares ≡ shares)
   pub closed : (es : List Closed) × (v.closed ≡ es ∷ []) × IsShareOfLayer task shares share 0 es
   pub begun : v.begun ≡ false
@@ -47,7 +47,7 @@ pub record IsNew (task : Task) (limit workers share shares : ℕ) (v : BookView)
 -- each of the books is new, and is the share of its index in the list
 abbrev pub AreNewInOrder : Task → ℕ → ℕ → ℕ → List BookView → Type 0
 AreNewInOrder task limit workers shares books =
-    (i : ℕ) (v : BookView) → slice_get books i ≡ Some v → IsNew task limit workers i shares v
+    (i : ℕ) (v : BookView) → slice_get books i ≡ Some v → IsNewBook task limit workers i shares v
 
 -- the new books of all shares, share 0 first
 abbrev pub AreNewShares : Task → ℕ → ℕ → ℕ → List BookView → Type 0
@@ -86,8 +86,8 @@ BeginRefused v layer BeginOutOfMemory = MayBegin v layer
 -- ---- claim
 
 -- the rank is claimed or done
-abbrev pub IsTaken : BookView → ℕ → Type 0
-IsTaken v r = (slice_index_or v.claimed r false ≡ true) ⊎ (slice_index_or v.done r false ≡ true)
+abbrev pub IsClaimedOrDone : BookView → ℕ → Type 0
+IsClaimedOrDone v r = (slice_index_or v.claimed r false ≡ true) ⊎ (slice_index_or v.done r false ≡ true)
 
 -- the rank is neither claimed nor done
 abbrev pub IsFreeRank : BookView → ℕ → Type 0
@@ -96,9 +96,9 @@ IsFreeRank v r = (slice_get v.claimed r ≡ Some false) × (slice_get v.done r �
 -- a claim gives the least rank that is neither claimed nor done, and marks it claimed; or nothing, if each rank is
 -- taken, and so if nothing has begun
 abbrev pub ClaimAnswer : BookView → Option Claim → BookView → Type 0
-ClaimAnswer v None after = ((r : ℕ) → r < length v.done → IsTaken v r) × (after ≡ v)
+ClaimAnswer v None after = ((r : ℕ) → r < length v.done → IsClaimedOrDone v r) × (after ≡ v)
 ClaimAnswer v (Some claim) after =
-    (claim.layer ≡ last_layer v) × IsFreeRank v claim.rank × ((r : ℕ) → r < claim.rank → IsTaken v r) ×
+    (claim.layer ≡ last_layer v) × IsFreeRank v claim.rank × ((r : ℕ) → r < claim.rank → IsClaimedOrDone v r) ×
     (after ≡ record v {
       claimed = slice_set v.claimed claim.rank true;
     })

@@ -2,7 +2,7 @@ ghost use Rattle.std.specs.Prelude.{◌≡◌, ◌+◌, ◌-◌, ◌<◌, ◌≤
 ghost use Rattle.std.specs.Prelude.{slice_index_or, Some};
 ghost use Rattle.layers.specs.BookView.{IsLawfulBook, last_layer};
 ghost use Rattle.layers.specs.Books.{closed_place};
-ghost use Rattle.layers.specs.inside.BookInside.{AreCuts, IsPiece};
+ghost use Rattle.layers.specs.inside.BookInside.{AreCuts, IsListPiece};
 
 use crate::layer::Layer;
 use crate::marks::Marks;
@@ -161,7 +161,7 @@ impl Book {
 // The bounds of a piece of a list that is cut at the indices `starts`; `None` beyond the pieces.
 fn piece_of(starts: &[usize], len: usize, piece: u64) -> Option<(usize, usize)>
     requires { AreCuts starts.now len }
-    ensures piece { MatchOption result (length starts.now ≤ piece) (λ r. IsPiece starts.now len piece r.0 r.1) }
+    ensures piece { MatchOption result (length starts.now ≤ piece) (λ r. IsListPiece starts.now len piece r.0 r.1) }
     ensures order { IfSome result (λ r. (r.0 ≤ r.1) × (r.1 ≤ len)) }
 {
     let from = *starts.get(piece as usize)?;

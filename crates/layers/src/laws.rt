@@ -9,7 +9,7 @@ ghost use Rattle.layers.specs.BookView.{BookView, AreBounds, AreSharesOfLayer, A
 ghost use Rattle.layers.specs.BookView.{IsShareOfLayer, last_layer, last_list};
 ghost use Rattle.store.specs.Entries.{Closed};
 ghost use Rattle.layers.specs.LayerView.{LayerView, IsWhole};
-ghost use Rattle.layers.specs.Books.{AreAllShares, HasBegun, IsNew};
+ghost use Rattle.layers.specs.Books.{AreAllShares, HasBegun, IsNewBook};
 ghost use Rattle.layers.specs.Holding.{AreManyIn, all_held};
 ghost use Rattle.layers.specs.Events.{Event, History, AreMadeAlike, KeepsClosed, CloseAlike};
 
@@ -29,7 +29,7 @@ pub fn a_book_stays_lawful()
 pub fn a_new_book_is_lawful()
     ensures { (task : Task) (limit workers share shares : ℕ) (book : BookView) → IsLevel task.board →
         AreBounds limit workers share shares →
-        IsNew task limit workers share shares book → IsLawfulBook book }
+        IsNewBook task limit workers share shares book → IsLawfulBook book }
 {}
 
 /// Two lawful books of one share of one level and cap have the same list for each layer that both have closed. The

@@ -5,7 +5,7 @@ ghost use Rattle.grid.specs.Lawful.{box_count};
 ghost use Rattle.grid.specs.States.{FitsLevel};
 ghost use Rattle.successors.specs.Capping.{capped};
 ghost use Rattle.layers.specs.BookView.{AreBounds, IsShareOfLayer};
-ghost use Rattle.layers.specs.Books.{AreNewShares, IsNew, BookRefused};
+ghost use Rattle.layers.specs.Books.{AreNewShares, IsNewBook, BookRefused};
 ghost use Rattle.layers.specs.inside.BookInside.{IsFirst};
 ghost use Rattle.store.specs.FoundView.{first_entries};
 ghost use Rattle.std.specs.Arc.{arc_value};
@@ -49,7 +49,7 @@ impl Book {
         requires workers { (1 ≤ workers) × (workers ≤ MAX_WORKERS + 1) }
         requires share { share < shares }
         requires shares { shares ≤ MAX_SHARES }
-        ensures ok { IfOk result (λ book. IsNew (capped (arc_value level) cap) limit workers share shares book) }
+        ensures ok { IfOk result (λ book. IsNewBook (capped (arc_value level) cap) limit workers share shares book) }
         ensures variant { MatchResult result (λ book. box_count (arc_value level) ≤ MAX_BOXES)
             (λ fault. BookRefused (arc_value level) fault) }
     {
@@ -107,7 +107,7 @@ impl Book {
         requires start { position.now ≡ start (arc_value level.now) }
         requires fits { FitsLevel (arc_value level.now) position.now }
         ensures { IfOk result
-            (λ book. IsNew (capped (arc_value level.now) cap) limit dealing.workers share dealing.shares book) }
+            (λ book. IsNewBook (capped (arc_value level.now) cap) limit dealing.workers share dealing.shares book) }
     {
         let problem = Problem::of(alloc, level, cap)?;
         let problem = Arc::new(alloc, problem)?;
@@ -129,7 +129,7 @@ impl Book {
         requires bounds { AreBounds limit dealing.workers share dealing.shares }
         requires few { box_count (arc_value problem).board ≤ MAX_BOXES }
         requires first { IsFirst (arc_value problem) first.now }
-        ensures { IfOk result (λ book. IsNew (arc_value problem) limit dealing.workers share dealing.shares book) }
+        ensures { IfOk result (λ book. IsNewBook (arc_value problem) limit dealing.workers share dealing.shares book) }
     {
         problem.tell();
         let tallies = first_tallies(alloc, dealing.workers)?;

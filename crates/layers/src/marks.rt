@@ -19,13 +19,13 @@ pub(crate) struct Marks {
 
 impl Model for Marks {
     ghost use Rattle.std.specs.Prelude.{Bool, List};
-    ghost use Rattle.layers.specs.inside.Bits.{AreMarks, marks_of};
+    ghost use Rattle.layers.specs.inside.Bits.{AreRankBits, marks_of};
 
     ghost Value = { List Bool };
 
     ghost view = { λ a. marks_of a.words.items a.len };
 
-    ghost invariant = { λ a. AreMarks a.words.items a.len a.set };
+    ghost invariant = { λ a. AreRankBits a.words.items a.len a.set };
 }
 
 impl Marks {

@@ -14,7 +14,7 @@ use Rattle.successors.proofs.lemmas.Lists.{each_push}
 use Rattle.prover.specs.declared.lane.Job.{Job}
 use Rattle.prover.specs.declared.pushing.Expanded.{Expanded}
 use Rattle.prover.specs.inside.Rounds.{AreJobs, IsJob}
-use Rattle.prover.specs.inside.Working.{IsReady, IsSearched, IsWaiting}
+use Rattle.prover.specs.inside.Working.{MayBeExpanded, IsSearchOnBoard, IsWaiting}
 
 -- what holds of each element of a list holds of the one at a place
 pub each_at : {A : Type 0} (P : A → Type 0) (xs : List A) (i : ℕ) → i < length xs → ((j : ℕ) (z : A) → slice_get xs j ≡ Some z → P z) →
@@ -22,15 +22,15 @@ pub each_at : {A : Type 0} (P : A → Type 0) (xs : List A) (i : ℕ) → i < le
 each_at P xs i lt each d = each i (get_or xs i d) (slice_get-get_or xs i d lt)
 
 -- one more job
-pub jobs_push : (t : Task) (old new : List Job) (job : Job) → new ≡ old ++ job ∷ [] → job.is_done ≡ false → IsReady t.board job.from →
+pub jobs_push : (t : Task) (old new : List Job) (job : Job) → new ≡ old ++ job ∷ [] → job.is_done ≡ false → MayBeExpanded t.board job.from →
     AreJobs t old → AreJobs t new
 jobs_push t old new job shape undone ready jobs = subst (AreJobs t) (sym shape)
     (each_push (IsJob t) old job (record { ready = ready; found = λ done. absurd (false≢true (sym undone ∙ done)) }) jobs)
 
 -- a position that was found and is not solved can be expanded
-pub ready_by : (board : Board) (cap : Option ℕ) (v : VisitedView) (place : ℕ) (x : Entry) (from : Expanded) → IsSearched board cap v →
+pub ready_by : (board : Board) (cap : Option ℕ) (v : VisitedView) (place : ℕ) (x : Entry) (from : Expanded) → IsSearchOnBoard board cap v →
     length v.entries < 2 ^ 32 → slice_get v.entries place ≡ Some x → (from.position ≡ x.position) × (from.pushes ≡ x.pushes) → from.reach < 2 ^ 32 →
-    ¬ (IsSolved board from.position) → IsReady board from
+    ¬ (IsSolved board from.position) → MayBeExpanded board from
 ready_by board cap v place x from searched few at same range unsolved =
     let less = searched.under_way.few place x at in
     let count = same.1 in

@@ -9,12 +9,12 @@ use Rattle.prices.specs.Solving.{Allows}
 use Rattle.successors.specs.Distances.{AreDistinct}
 use Rattle.store.specs.Visited.{Entry}
 use Rattle.prover.specs.Fewest.{NoneHasFewer, IsReachable, HasMore}
-use Rattle.prover.specs.Frontier.{IsUnderWay, AreFrom, AreClosed}
+use Rattle.prover.specs.Frontier.{IsSearchUnderWay, AreFrom, NoneIsOpen}
 use Rattle.prover.specs.inside.Working.{IsLeastOpen}
 use Rattle.prover.specs.inside.SearchEnds.{NoneIsAllowed, IsLeastSolved}
 use Rattle.prover.proofs.Openings.{allows_fewer, least_bounds, closed_decides}
 
-pub none_has_fewer : (board : Board) (cap : Option ℕ) (all : List Entry) (least : ℕ) → IsLevel board → IsUnderWay board cap all → AreFrom least all →
+pub none_has_fewer : (board : Board) (cap : Option ℕ) (all : List Entry) (least : ℕ) → IsLevel board → IsSearchUnderWay board cap all → AreFrom least all →
     Allows cap least →
     NoneHasFewer board least
 none_has_fewer board None all least level under from allowed ds ps solution = least_bounds board level None all least under from ds ps solution tt
@@ -23,7 +23,7 @@ none_has_fewer board (Some most) all least level under from allowed ds ps soluti
   | inr few ↦ least_bounds board level (Some most) all least under from ds ps solution few
 ]
 
-pub none_is_allowed : (board : Board) (cap : Option ℕ) (all : List Entry) → IsLevel board → IsUnderWay board cap all → AreClosed all → NoneIsAllowed board cap
+pub none_is_allowed : (board : Board) (cap : Option ℕ) (all : List Entry) → IsLevel board → IsSearchUnderWay board cap all → NoneIsOpen all → NoneIsAllowed board cap
 none_is_allowed board None all level under closed = λ t ds ps play solved. closed_decides board level None all under closed ds ps (t, play, solved) tt
 none_is_allowed board (Some most) all level under closed = λ ds ps t play solved. elim (cases_lt most (length ps)) [
   | inl more ↦ more
@@ -31,7 +31,7 @@ none_is_allowed board (Some most) all level under closed = λ ds ps t play solve
 ]
 
 -- what a solved position of the least total says
-pub solved_told : (board : Board) (cap : Option ℕ) (all : List Entry) (place least : ℕ) → IsLevel board → IsUnderWay board cap all →
+pub solved_told : (board : Board) (cap : Option ℕ) (all : List Entry) (place least : ℕ) → IsLevel board → IsSearchUnderWay board cap all →
     IsLeastOpen all place least → ((x : Entry) → slice_get all place ≡ Some x → IsSolved board x.position) → IsLeastSolved board cap all place
 solved_told board cap all place least level under (x, at, open_, from) solved =
     let total = (under.sound place x at).total least open_ in
@@ -44,7 +44,7 @@ solved_told board cap all place least level under (x, at, open_, from) solved =
     }
 
 -- what the least total says
-pub least_told : (board : Board) (cap : Option ℕ) (all : List Entry) (place least : ℕ) → IsLevel board → IsUnderWay board cap all →
+pub least_told : (board : Board) (cap : Option ℕ) (all : List Entry) (place least : ℕ) → IsLevel board → IsSearchUnderWay board cap all →
     IsLeastOpen all place least → NoneHasFewer board least
 least_told board cap all place least level under (x, at, open_, from) =
     none_has_fewer board cap all least level under from ((under.sound place x at).total least open_).allowed
@@ -63,7 +63,7 @@ same_length : (all : List Entry) → length (map (λ (x : Entry). x.position) al
 same_length [] = refl
 same_length (x ∷ all) = ap suc (same_length all)
 
-pub has_more : (board : Board) (cap : Option ℕ) (all : List Entry) (limit : ℕ) → IsUnderWay board cap all → AreDistinct (map (λ (x : Entry). x.position) all) →
+pub has_more : (board : Board) (cap : Option ℕ) (all : List Entry) (limit : ℕ) → IsSearchUnderWay board cap all → AreDistinct (map (λ (x : Entry). x.position) all) →
     limit < length all →
     HasMore board limit
 has_more board cap all limit under distinct many = record {

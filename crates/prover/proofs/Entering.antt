@@ -7,7 +7,7 @@ use Rattle.std.proofs.lemmas.Option.{none-some, same_Some, slice_get_within}
 use Rattle.std.specs.Prelude.{slice_get}
 use Rattle.store.specs.Visited.{Entry, HasEntered, IsNew}
 use Rattle.successors.proofs.lemmas.Lists.{at-push, at_before, at_seam, set_at, set_here, set_there}
-use Rattle.prover.specs.inside.Working.{Enters, GoesOn, openness, turns, turns_left}
+use Rattle.prover.specs.inside.Working.{Enters, GetsOn, openness, turns, turns_left}
 
 -- ---- lists
 
@@ -36,10 +36,10 @@ pub few_open : (o : Option ℕ) → openness o ≤ 4294967296
 few_open None = omega arith
 few_open (Some n) = omega arith
 
-pub same_turns : (old new : List Entry) → new ≡ old → GoesOn old new
-same_turns old new e = subst (λ (xs : List Entry). GoesOn old xs) (sym e) (record { more = omega arith; turns = λ limit le. omega arith })
+pub same_turns : (old new : List Entry) → new ≡ old → GetsOn old new
+same_turns old new e = subst (λ (xs : List Entry). GetsOn old xs) (sym e) (record { more = omega arith; turns = λ limit le. omega arith })
 
-added_turns : (old : List Entry) (y : Entry) → y.pushes ≤ length old → GoesOn old (old ++ y ∷ [])
+added_turns : (old : List Entry) (y : Entry) → y.pushes ≤ length old → GetsOn old (old ++ y ∷ [])
 added_turns old y few =
     let long = length-append old (y ∷ []) in record {
       more = omega (arith, long);

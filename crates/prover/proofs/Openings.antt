@@ -15,7 +15,7 @@ use Rattle.prover.proofs.Deferring.{tightened}
 use Rattle.prover.proofs.OnGoals.{solved_or_not}
 use Rattle.prover.proofs.lemmas.Pruning.{keeps_so}
 use Rattle.store.specs.Visited.{Entry}
-use Rattle.prover.specs.Frontier.{IsFound, IsDoneFor, IsBefore, IsSettled, IsSound, AreSound, IsOnTheWay, IsBound, ComesFrom}
+use Rattle.prover.specs.Frontier.{IsFoundWithin, IsDoneFor, IsBelowLeast, IsSettled, IsSoundEntry, AreSoundEntries, IsOnTheWay, IsBound, ComesFrom}
 use Rattle.prover.specs.Frontier.{NothingIsLost, LeastBounds, ClosedDecides}
 use Rattle.prover.specs.inside.Working.{KeepPlaces, Expands, tighter}
 use Rattle.store.specs.declared.visited.Parent.{Parent}
@@ -35,15 +35,15 @@ open_or_done : (board : Board) (cap : Option ℕ) (all : List Entry) (m : ℕ) (
 open_or_done board cap all m x allowed settled = by_least x.least refl
   where
     by_least : (o : Option ℕ) → x.least ≡ o → ((least : ℕ) × (x.least ≡ Some least) × (least ≤ m)) ⊎ IsDoneFor board m all x
-    by_least None is = inr (settled m allowed (subst (λ (o : Option ℕ). IsBefore o m) (sym is) tt))
+    by_least None is = inr (settled m allowed (subst (λ (o : Option ℕ). IsBelowLeast o m) (sym is) tt))
     by_least (Some least) is = elim (cases_lt m least) [
-      | inl lt ↦ inr (settled m allowed (subst (λ (o : Option ℕ). IsBefore o m) (sym is) lt))
+      | inl lt ↦ inr (settled m allowed (subst (λ (o : Option ℕ). IsBelowLeast o m) (sym is) lt))
       | inr le ↦ inl (least, is, le)
     ]
 
 -- a position that was found, and that is solvable with the pushes that are left, is on the way or leads to one that is
-led_on : (board : Board) (cap : Option ℕ) (all : List Entry) (m : ℕ) → AreSound board cap all → Allows cap m
-    → (rest k : ℕ) (s : Scene) → IsFound all k s → k + rest ≤ m → SolvableWithin board rest s → IsOnTheWay board m all
+led_on : (board : Board) (cap : Option ℕ) (all : List Entry) (m : ℕ) → AreSoundEntries board cap all → Allows cap m
+    → (rest k : ℕ) (s : Scene) → IsFoundWithin all k s → k + rest ≤ m → SolvableWithin board rest s → IsOnTheWay board m all
 led_on board cap all m sound allowed zero k s (i, x, at, same, le) few solvable =
     elim (open_or_done board cap all m x allowed (sound i x at).settled) [
       | inl (least, is, low) ↦ way least 0 is low (omega (arith, few, le)) (subst (SolvableWithin board 0) (sym same) solvable)
@@ -68,7 +68,7 @@ led_on board cap all m sound allowed (suc rest) k s (i, x, at, same, le) few sol
         record { place = i; entry = x; least = least; rest = rest; at = at; is_open = is; low = low; few = few; solvable = solvable }
 
     by_solved : IsDoneFor board m all x →
-        ((t : Scene) → IsFound all (suc x.pushes) t → suc x.pushes + rest ≤ m → SolvableWithin board rest t → IsOnTheWay board m all) →
+        ((t : Scene) → IsFoundWithin all (suc x.pushes) t → suc x.pushes + rest ≤ m → SolvableWithin board rest t → IsOnTheWay board m all) →
         IsSolved board x.position ⊎ ¬ (IsSolved board x.position) → IsOnTheWay board m all
     by_solved done onwards (inl solved) = absurd (let lt = done.unsolved solved in omega (arith, lt, few, le))
     by_solved done onwards (inr unsolved) =
@@ -95,7 +95,7 @@ closed_decides board level cap all under closed ds ps (t, play, solved) allowed 
 -- ---- how the positions change
 
 -- what was found stays found
-pub found_on : (old new : List Entry) (k : ℕ) (s : Scene) → KeepPlaces old new → IsFound old k s → IsFound new k s
+pub found_on : (old new : List Entry) (k : ℕ) (s : Scene) → KeepPlaces old new → IsFoundWithin old k s → IsFoundWithin new k s
 found_on old new k s still (i, x, at, same, le) =
     let (y, there, alike, less) = still i x at in
     (i, y, there, alike ∙ same, omega (arith, less, le))
@@ -107,7 +107,7 @@ settled_on board cap old new x still settled most allowed before =
     let done = settled most allowed before in
     record {
       unsolved = done.unsolved;
-      keeps = keeps_so board (IsFound old (suc x.pushes)) (IsFound new (suc x.pushes)) most x.pushes x.position
+      keeps = keeps_so board (IsFoundWithin old (suc x.pushes)) (IsFoundWithin new (suc x.pushes)) most x.pushes x.position
           (λ t found. found_on old new (suc x.pushes) t still found) done.keeps;
     }
 
@@ -123,7 +123,7 @@ from_on board old new x (Some step) still (y, at, fewer, can, norm) =
       subst (λ (s : Scene). IsNorm board (after_push board s step.push) x.position) (sym same) norm,
     )
 
-pub sound_on : (board : Board) (cap : Option ℕ) (old new : List Entry) (x : Entry) → KeepPlaces old new → IsSound board cap old x → IsSound board cap new x
+pub sound_on : (board : Board) (cap : Option ℕ) (old new : List Entry) (x : Entry) → KeepPlaces old new → IsSoundEntry board cap old x → IsSoundEntry board cap new x
 sound_on board cap old new x still sound = record {
   fits = sound.fits;
   reached = sound.reached;
@@ -141,12 +141,12 @@ settled_open board cap all x least open_ bound most allowed before = record {
 }
   where
     lt : most < least
-    lt = subst (λ (o : Option ℕ). IsBefore o most) open_ before
+    lt = subst (λ (o : Option ℕ). IsBelowLeast o most) open_ before
 
 -- a position whose expansion kept what it has to, up to what is left for later, is settled up to there
 pub settled_expanded : (board : Board) (cap : Option ℕ) (all : List Entry) (x : Entry) (next : Option ℕ) → x.least ≡ next → ¬ (IsSolved board x.position) →
-    Expands board (tighter cap next) (IsFound all (suc x.pushes)) x.pushes x.position → IsSettled board cap all x
+    Expands board (tighter cap next) (IsFoundWithin all (suc x.pushes)) x.pushes x.position → IsSettled board cap all x
 settled_expanded board cap all x next is unsolved expands most allowed before = record {
   unsolved = λ solved. absurd (unsolved solved);
-  keeps = expands most (tightened cap next most allowed (subst (λ (o : Option ℕ). IsBefore o most) is before));
+  keeps = expands most (tightened cap next most allowed (subst (λ (o : Option ℕ). IsBelowLeast o most) is before));
 }

@@ -15,9 +15,9 @@ use Rattle.std.specs.Prelude.{MatchOption, option_to_list, slice_get}
 use Rattle.store.specs.Visited.{Entry, HasEntered, with_least}
 use Rattle.successors.proofs.lemmas.Lists.{at-push, set_at}
 use Rattle.prover.specs.declared.queue.Ticket.{Ticket}
-use Rattle.prover.specs.Frontier.{AreClosed}
+use Rattle.prover.specs.Frontier.{NoneIsOpen}
 use Rattle.prover.specs.inside.Tickets.{ticket_cmp}
-use Rattle.prover.specs.inside.Working.{HasLeastAt, IsFirst, IsLeastOpen, IsQueued, Waits}
+use Rattle.prover.specs.inside.Working.{HasLeastAt, IsFirstTicket, IsLeastOpen, IsQueued, Waits}
 
 -- ---- tickets
 
@@ -49,7 +49,7 @@ le_first t (v ∷ ts) above u (zero, lt, e) =
 le_first t (v ∷ ts) above u (suc i, lt, e) = le_first t ts above.1 u (i, omega (arith, lt), e)
 
 -- the greatest ticket, at the head, is the first
-pub first_by : (t : Ticket) (ts : List Ticket) → slice_get ts 0 ≡ Some t → IsUpperBound ticket_cmp t ts → IsFirst ts t
+pub first_by : (t : Ticket) (ts : List Ticket) → slice_get ts 0 ≡ Some t → IsUpperBound ticket_cmp t ts → IsFirstTicket ts t
 first_by t ts at above = record {
   at = at;
   least = λ least place (u, there, l, p). subst (λ (n : ℕ). t.least.0 ≤ n) l (le_first t ts above u there);
@@ -269,13 +269,13 @@ queued_less all t before after queued stale others i x least at open_ = elim (ot
 ]
 
 -- a position that is open with the total of the first ticket has the least total of all
-pub least_open_by : (all : List Entry) (t : Ticket) (tickets : List Ticket) → IsQueued all tickets → IsFirst tickets t →
+pub least_open_by : (all : List Entry) (t : Ticket) (tickets : List Ticket) → IsQueued all tickets → IsFirstTicket tickets t →
     (x : Entry) × (slice_get all t.place ≡ Some x) × (x.least ≡ Some t.least.0) → IsLeastOpen all t.place t.least.0
 least_open_by all t tickets queued first (x, at, open_) =
     (x, at, open_, λ i y least there is. first.least least i (queued i y least there is))
 
 -- where no ticket waits, none is open
-pub closed_by : (all : List Entry) (tickets : List Ticket) → IsQueued all tickets → tickets ≡ [] → AreClosed all
+pub closed_by : (all : List Entry) (tickets : List Ticket) → IsQueued all tickets → tickets ≡ [] → NoneIsOpen all
 closed_by all tickets queued none i x at = by x.least refl
   where
     by : (o : Option ℕ) → x.least ≡ o → x.least ≡ None

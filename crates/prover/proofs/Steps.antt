@@ -30,9 +30,9 @@ use Rattle.prover.specs.declared.pushing.Expanded.{Expanded}
 use Rattle.prover.specs.declared.pushing.Opened.{Opened}
 use Rattle.prover.specs.Fewest.{IsReachable}
 use Rattle.store.specs.Visited.{Entry, VisitedView, with_least}
-use Rattle.prover.specs.Frontier.{IsFound, IsSound, IsUnderWay, IsBound, IsTotal, IsLeast, IsSettled, ComesFrom, NoneGoesOn}
-use Rattle.prover.specs.inside.Working.{HasLeastAt, KeepPlaces, Expands, IsTaken, AreTaken, IsChosen, Enters, AreLeading, IsAtPlace, StayBelow, IsExpanding}
-use Rattle.prover.specs.inside.Working.{IsSearched, Widens, GoesOn, IsLater, lesser, openness, tighter, turns_left}
+use Rattle.prover.specs.Frontier.{IsFoundWithin, IsSoundEntry, IsSearchUnderWay, IsBound, IsTotal, IsLeast, IsSettled, ComesFrom, NoneGoesOn}
+use Rattle.prover.specs.inside.Working.{HasLeastAt, KeepPlaces, Expands, IsPushDone, ArePushesDone, IsChosen, Enters, AreLeading, IsFoundAt, StayBelow, IsExpanding}
+use Rattle.prover.specs.inside.Working.{IsSearchOnBoard, Widens, GetsOn, IsLater, lesser_total, openness, tighter, turns_left}
 use Rattle.prover.specs.inside.Working.{AreEntered, IsOpenedPosition, IsOpenedBy, Opens}
 use Rattle.prover.proofs.lemmas.Pruning.{after_scene, all_suffice, keeps_so, pushed_from, pushed_push}
 use Rattle.prover.proofs.Openings.{allows_fewer, found_on, settled_open, settled_expanded, sound_on}
@@ -47,19 +47,19 @@ on_ok_so (Err e) f a = tt
 -- ---- a push is done with
 
 pub taken_on : (board : Board) (cap : Option ℕ) (Old New : Scene → Type 0) (k : ℕ) (s : Scene) (p : Push) → ((t : Scene) → Old t → New t) →
-    IsTaken board cap Old k s p → IsTaken board cap New k s p
+    IsPushDone board cap Old k s p → IsPushDone board cap New k s p
 taken_on board cap Old New k s p still taken m allowed solvable =
     let (t, kept, rest) = taken m allowed solvable in
     (t, still t kept, rest)
 
 pub taken_found : (board : Board) (cap : Option ℕ) (Kept : Scene → Type 0) (k : ℕ) (s n : Scene) (p : Push) → IsScene board s → CanPush board s p →
-    IsNorm board (after_push board s p) n → Kept n → IsTaken board cap Kept k s p
+    IsNorm board (after_push board s p) n → Kept n → IsPushDone board cap Kept k s p
 taken_found board cap Kept k s n p scene can norm found m allowed solvable =
     (n, found, (norms_change_nothing board (after_push board s p) n (after_scene board s p scene can) norm m).0 solvable)
 
 -- so is one after which no play that the cap allows ends solved
 pub taken_none : (board : Board) (cap : Option ℕ) (Kept : Scene → Type 0) (k : ℕ) (s n : Scene) (p : Push) → IsScene board s → CanPush board s p →
-    IsNorm board (after_push board s p) n → NoneGoesOn board cap (suc k) n → IsTaken board cap Kept k s p
+    IsNorm board (after_push board s p) n → NoneGoesOn board cap (suc k) n → IsPushDone board cap Kept k s p
 taken_none board cap Kept k s n p scene can norm none m allowed solvable =
     absurd (none m (allows_fewer cap (suc k + m) (k + suc m) (omega arith) allowed)
     ((norms_change_nothing board (after_push board s p) n (after_scene board s p scene can) norm m).0 solvable))
@@ -73,7 +73,7 @@ slack_never v board s least p same never m lt =
 -- so is one that never helps with fewer pushes than `least`, where the cap allows fewer
 pub taken_dear : (board : Board) (cap : Option ℕ) (Kept : Scene → Type 0) (k total least : ℕ) (s : Scene) (p : Push) → IsScene board s → CanPush board s p →
     ((m : ℕ) → m < least → NeverHelps board m s p.square p.dir) → total ≤ k + least → ((m : ℕ) → Allows cap (k + suc m) → k + suc m < total) →
-    IsTaken board cap Kept k s p
+    IsPushDone board cap Kept k s p
 taken_dear board cap Kept k total least s p scene can never le below m allowed (ds, ps, t, play, solved, few) =
     absurd (let lt = below m allowed in
     let more = never_leads_on board m s (after_push board s p) p scene (never (suc m) (omega (arith, le, lt)))
@@ -86,21 +86,21 @@ below_refused cap total m refused allowed = elim (cases_lt m total) [
   | inr le ↦ absurd (refused (allows_fewer cap total m le allowed))
 ]
 
--- what is done with up to a number is done with up to a lesser one
+-- what is done with up to a number is done with up to a lesser_total one
 pub taken_less : (board : Board) (cap lower : Option ℕ) (Kept : Scene → Type 0) (k : ℕ) (s : Scene) (p : Push) → ((m : ℕ) → Allows lower m → Allows cap m) →
-    IsTaken board cap Kept k s p → IsTaken board lower Kept k s p
+    IsPushDone board cap Kept k s p → IsPushDone board lower Kept k s p
 taken_less board cap lower Kept k s p narrows taken m allowed = taken m (narrows (k + suc m) allowed)
 
 pub are_taken_less : (board : Board) (cap lower : Option ℕ) (Kept : Scene → Type 0) (Tried : Push → Type 0) (k : ℕ) (s : Scene)
     (pushes : List Push) (count : ℕ) →
-    ((m : ℕ) → Allows lower m → Allows cap m) → AreTaken board cap Kept Tried k s pushes count → AreTaken board lower Kept Tried k s pushes count
+    ((m : ℕ) → Allows lower m → Allows cap m) → ArePushesDone board cap Kept Tried k s pushes count → ArePushesDone board lower Kept Tried k s pushes count
 are_taken_less board cap lower Kept Tried k s pushes count narrows taken i p lt there tried =
     taken_less board cap lower Kept k s p narrows (taken i p lt there tried)
 
 -- a push is left for later
 pub taken_later : (board : Board) (cap : Option ℕ) (Kept : Scene → Type 0) (k total : ℕ) (s n : Scene) (p : Push) (next : Option ℕ) → IsScene board s →
     CanPush board s p → IsNorm board (after_push board s p) n → IsBound board (suc k) n total →
-    IsTaken board (tighter cap (lesser next total)) Kept k s p
+    IsPushDone board (tighter cap (lesser_total next total)) Kept k s p
 taken_later board cap Kept k total s n p next scene can norm bound m allowed solvable = absurd (
     let le = bound m ((norms_change_nothing board (after_push board s p) n (after_scene board s p scene can) norm m).0 solvable) in
     let lt = lesser_below cap next total (k + suc m) (omega arith) allowed in
@@ -109,20 +109,20 @@ taken_later board cap Kept k total s n p next scene can norm bound m allowed sol
 
 -- one more push is done with, if it is to be tried
 pub taken_more : (board : Board) (cap : Option ℕ) (Old New : Scene → Type 0) (Tried : Push → Type 0) (k : ℕ) (s : Scene) (pushes : List Push) (i : ℕ) (p : Push)
-    → ((t : Scene) → Old t → New t) → slice_get pushes i ≡ Some p → AreTaken board cap Old Tried k s pushes i → (Tried p → IsTaken board cap New k s p) →
-    AreTaken board cap New Tried k s pushes (i + 1)
+    → ((t : Scene) → Old t → New t) → slice_get pushes i ≡ Some p → ArePushesDone board cap Old Tried k s pushes i → (Tried p → IsPushDone board cap New k s p) →
+    ArePushesDone board cap New Tried k s pushes (i + 1)
 taken_more board cap Old New Tried k s pushes i p still here before taken j q lt there tried = elim (cases_lt j i) [
   | inl less ↦ taken_on board cap Old New k s q still (before j q less there tried)
   | inr ge ↦
       (let e : i ≡ j = omega (arith, lt, ge) in
       let same : p ≡ q = same_Some p q (sym here ∙ (ap (λ (k : ℕ). slice_get pushes k) e ∙ there)) in
-      subst (λ (r : Push). Tried r → IsTaken board cap New k s r) same taken tried)
+      subst (λ (r : Push). Tried r → IsPushDone board cap New k s r) same taken tried)
 ]
 
 -- all pushes that are to be tried are done with, and these suffice for each number of pushes that the cap leaves
 pub expands_by : (board : Board) (cap : Option ℕ) (Kept : Scene → Type 0) (Tried : Push → Type 0) (k : ℕ) (s : Scene) (pushes : List Push) (count : ℕ)
     → IsScene board s → ArePushes board s pushes → length pushes ≤ count → ((m : ℕ) → Allows cap (k + suc m) → Suffice board m Tried s)
-    → AreTaken board cap Kept Tried k s pushes count → Expands board cap Kept k s
+    → ArePushesDone board cap Kept Tried k s pushes count → Expands board cap Kept k s
 expands_by board cap Kept Tried k s pushes count scene are over suffice taken most allowed m few unsolved solvable =
     let ok = allows_fewer cap (k + suc m) most few allowed in
     let (p, t, tried, pushed, rest) = suffice m ok m (omega arith) unsolved solvable in
@@ -190,27 +190,27 @@ listed_last opened new o is = subst (λ (os : List Opened). IsOpenedPosition os 
 
 -- where each position that was opened has entered, what the expansion keeps was found
 pub expands_found : (board : Board) (cap : Option ℕ) (opened : List Opened) (all : List Entry) (k : ℕ) (s : Scene) →
-    ((t : Scene) → IsOpenedPosition opened t → IsFound all (suc k) t) → Expands board cap (IsOpenedPosition opened) k s →
-    Expands board cap (IsFound all (suc k)) k s
+    ((t : Scene) → IsOpenedPosition opened t → IsFoundWithin all (suc k) t) → Expands board cap (IsOpenedPosition opened) k s →
+    Expands board cap (IsFoundWithin all (suc k)) k s
 expands_found board cap opened all k s entered expands most allowed =
-    keeps_so board (IsOpenedPosition opened) (IsFound all (suc k)) most k s entered (expands most allowed)
+    keeps_so board (IsOpenedPosition opened) (IsFoundWithin all (suc k)) most k s entered (expands most allowed)
 
 -- the next of them has entered
 pub entered_more : (old new : List Entry) (opened : List Opened) (k i : ℕ) (o : Opened) → KeepPlaces old new → slice_get opened i ≡ Some o →
-    IsFound new k o.position → AreEntered old opened k i → AreEntered new opened k (i + 1)
+    IsFoundWithin new k o.position → AreEntered old opened k i → AreEntered new opened k (i + 1)
 entered_more old new opened k i o still at found before j u lt there = elim (cases_lt j i) [
   | inl less ↦ found_on old new k u.position still (before j u less there)
   | inr ge ↦
       (let e : i ≡ j = omega (arith, lt, ge) in
       let same : o ≡ u = same_Some o u (sym at ∙ (ap (λ (n : ℕ). slice_get opened n) e ∙ there)) in
-      subst (λ (v : Opened). IsFound new k v.position) same found)
+      subst (λ (v : Opened). IsFoundWithin new k v.position) same found)
 ]
 
 -- all of them have
 pub entered_all : (all : List Entry) (opened : List Opened) (k count : ℕ) → length opened ≤ count → AreEntered all opened k count →
-    (t : Scene) → IsOpenedPosition opened t → IsFound all k t
+    (t : Scene) → IsOpenedPosition opened t → IsFoundWithin all k t
 entered_all all opened k count over entered t (i, o, at, same) =
-    subst (IsFound all k) same (entered i o (let lt = slice_get_within opened i o at in omega (arith, lt, over)) at)
+    subst (IsFoundWithin all k) same (entered i o (let lt = slice_get_within opened i o at in omega (arith, lt, over)) at)
 
 -- ---- what leads to a position
 
@@ -237,19 +237,19 @@ reached_after board s n p scene can norm (ds, ps, t, play, here) =
 
 -- ---- positions enter, and are closed
 
-pub under_way_entered : (board : Board) (cap : Option ℕ) (old new : List Entry) (e : Entry) (least : ℕ) → IsUnderWay board cap old → Enters old new e →
+pub under_way_entered : (board : Board) (cap : Option ℕ) (old new : List Entry) (e : Entry) (least : ℕ) → IsSearchUnderWay board cap old → Enters old new e →
     FitsLevel board e.position → IsReachable board e.position → e.pushes ≤ length old → ComesFrom board new e e.parent → e.least ≡ Some least →
-    IsTotal board cap e.pushes e.position least → IsUnderWay board cap new
+    IsTotal board cap e.pushes e.position least → IsSearchUnderWay board cap new
 under_way_entered board cap old new e least under enters fits reached few from is total = record {
   begun = (under.begun.0, under.begun.1, found_on old new 0 under.begun.0 enters.still under.begun.2);
   few = enters.few few under.few;
   sound = λ i y at. elim (enters.each i y at) [
     | inl before ↦ sound_on board cap old new y enters.still (under.sound i y before)
-    | inr same ↦ subst (IsSound board cap new) (sym same) opened
+    | inr same ↦ subst (IsSoundEntry board cap new) (sym same) opened
   ];
 }
   where
-    opened : IsSound board cap new e
+    opened : IsSoundEntry board cap new e
     opened = record {
       fits = fits;
       reached = reached;
@@ -259,17 +259,17 @@ under_way_entered board cap old new e least under enters fits reached few from i
       settled = settled_open board cap new e least is total.bound;
     }
 
-pub under_way_set : (board : Board) (cap : Option ℕ) (old new : List Entry) (place : ℕ) (x : Entry) (least : Option ℕ) → IsUnderWay board cap old →
+pub under_way_set : (board : Board) (cap : Option ℕ) (old new : List Entry) (place : ℕ) (x : Entry) (least : Option ℕ) → IsSearchUnderWay board cap old →
     slice_get old place ≡ Some x → ((n : ℕ) → least ≡ Some n → IsLeast cap x.pushes n) →
-    IsSettled board cap old (with_least least x) → HasLeastAt old place least new → IsUnderWay board cap new
-under_way_set board cap old new place x least under here total settled has = subst (IsUnderWay board cap) (sym (has x here)) (record {
+    IsSettled board cap old (with_least least x) → HasLeastAt old place least new → IsSearchUnderWay board cap new
+under_way_set board cap old new place x least under here total settled has = subst (IsSearchUnderWay board cap) (sym (has x here)) (record {
   begun = (under.begun.0, under.begun.1, found_on old after 0 under.begun.0 still under.begun.2);
   few = λ i z there. (let long = length-set old place y in elim (set_at old place i y z there) [
     | inl (p, q) ↦ (let same = ap (λ (w : Entry). w.pushes) q in let less = under.few place x here in omega (arith, same, less, long))
     | inr (p, q) ↦ (let less = under.few i z q in omega (arith, less, long))
   ]);
   sound = λ i z there. elim (set_at old place i y z there) [
-    | inl (p, q) ↦ subst (IsSound board cap after) (sym q) sound
+    | inl (p, q) ↦ subst (IsSoundEntry board cap after) (sym q) sound
     | inr (p, q) ↦ sound_on board cap old after z still (under.sound i z q)
   ];
 })
@@ -291,25 +291,25 @@ under_way_set board cap old new place x least under here total settled has = sub
       | inr ne ↦ (z, set_there old place i y ne ∙ there, refl, omega arith)
     ]
 
-    sound : IsSound board cap after y
+    sound : IsSoundEntry board cap after y
     sound =
         let was = under.sound place x here in
         sound_on board cap old after y still
         (record { fits = was.fits; reached = was.reached; from = was.from; total = total; settled = settled })
 
 -- the position that was expanded is closed, or has the least total of what was left for later
-pub under_way_expanded : (board : Board) (cap : Option ℕ) (old new : List Entry) (place reach : ℕ) (x : Entry) (next : Option ℕ) → IsUnderWay board cap old →
+pub under_way_expanded : (board : Board) (cap : Option ℕ) (old new : List Entry) (place reach : ℕ) (x : Entry) (next : Option ℕ) → IsSearchUnderWay board cap old →
     slice_get old place ≡ Some x → x.pushes ≤ reach → ¬ (IsSolved board x.position) → IsLater cap reach next →
-    Expands board (tighter cap next) (IsFound old (suc x.pushes)) x.pushes x.position → HasLeastAt old place next new → IsUnderWay board cap new
+    Expands board (tighter cap next) (IsFoundWithin old (suc x.pushes)) x.pushes x.position → HasLeastAt old place next new → IsSearchUnderWay board cap new
 under_way_expanded board cap old new place reach x next under here near unsolved later expands =
     under_way_set board cap old new place x next under here
     (λ n e. (let (lt, allowed) = later n e in record { near = omega (arith, near, lt); allowed = allowed }))
     (settled_expanded board cap old (with_least next x) next refl unsolved expands)
 
 -- what a push leads to has entered
-pub under_way_after : (board : Board) (cap : Option ℕ) (old new : List Entry) (place k least : ℕ) (s n : Scene) (p : Push) → IsUnderWay board cap old →
-    IsAtPlace old place s k → CanPush board s p → IsNorm board (after_push board s p) n → FitsLevel board n → IsTotal board cap (suc k) n least →
-    Enters old new (record { position = n; pushes = suc k; least = Some least; parent = Some (record { place = place; push = p }) }) → IsUnderWay board cap new
+pub under_way_after : (board : Board) (cap : Option ℕ) (old new : List Entry) (place k least : ℕ) (s n : Scene) (p : Push) → IsSearchUnderWay board cap old →
+    IsFoundAt old place s k → CanPush board s p → IsNorm board (after_push board s p) n → FitsLevel board n → IsTotal board cap (suc k) n least →
+    Enters old new (record { position = n; pushes = suc k; least = Some least; parent = Some (record { place = place; push = p }) }) → IsSearchUnderWay board cap new
 under_way_after board cap old new place k least s n p under (x, at, same, count) can norm fits total enters =
     under_way_entered board cap old new _ least under enters fits
     (reached_after board s n p (subst (IsScene board) same (under.sound place x at).fits.scene) can norm
@@ -323,7 +323,7 @@ under_way_after board cap old new place k least s n p under (x, at, same, count)
     ) refl total
 
 -- the position keeps its place
-pub place_kept : (k : ℕ) (old new : List Entry) (place : ℕ) (s : Scene) → StayBelow (suc k) old new → IsAtPlace old place s k → IsAtPlace new place s k
+pub place_kept : (k : ℕ) (old new : List Entry) (place : ℕ) (s : Scene) → StayBelow (suc k) old new → IsFoundAt old place s k → IsFoundAt new place s k
 place_kept k old new place s below (x, at, same, count) = (x, below place x at (omega (arith, count)), same, count)
 
 pub expanding_fits : (board : Board) (cap : Option ℕ) (v : VisitedView) (from : Expanded) → IsExpanding board cap v from → FitsLevel board from.position
@@ -333,7 +333,7 @@ expanding_fits board cap v from expanding =
 
 -- ---- an expansion goes on
 
-pub widens_none : (board : Board) (cap : Option ℕ) (k : ℕ) (v : VisitedView) → IsSearched board cap v → Widens board cap k v v
+pub widens_none : (board : Board) (cap : Option ℕ) (k : ℕ) (v : VisitedView) → IsSearchOnBoard board cap v → Widens board cap k v v
 widens_none board cap k v searched = record {
   searched = searched;
   still = λ i x at. (x, at, refl, omega arith);
@@ -366,13 +366,13 @@ expanding_on board cap old new from was widens = record {
 
 -- the start alone has entered
 pub under_way_first : (board : Board) (cap : Option ℕ) (old new : List Entry) (n : Scene) → IsNorm board (start board) n → FitsLevel board n → old ≡ [] →
-    Enters old new ((record { position = n; pushes = 0; least = Some 0; parent = None })) → IsUnderWay board cap new
+    Enters old new ((record { position = n; pushes = 0; least = Some 0; parent = None })) → IsSearchUnderWay board cap new
 under_way_first board cap old new n norm fits none enters = record {
   begun = (n, norm, enters.found);
   few = enters.few (omega arith) (λ i x there. absurd (no i x there));
   sound = λ i y there. elim (enters.each i y there) [
     | inl before ↦ absurd (no i y before)
-    | inr is ↦ subst (IsSound board cap new) (sym is) first
+    | inr is ↦ subst (IsSoundEntry board cap new) (sym is) first
   ];
 }
   where
@@ -386,7 +386,7 @@ under_way_first board cap old new n norm fits none enters = record {
     e : Entry
     e = (record { position = n; pushes = 0; least = Some 0; parent = None })
 
-    first : IsSound board cap new e
+    first : IsSoundEntry board cap new e
     first = record {
       fits = fits;
       reached = ([], [], start board, stay tt, norm);
@@ -398,7 +398,7 @@ under_way_first board cap old new n norm fits none enters = record {
 -- ---- fewer turns are left
 
 pub turns_expanded : (cap : Option ℕ) (first second third : List Entry) (place least reach : ℕ) (x : Entry) (next : Option ℕ) → reach < 4294967296 →
-    GoesOn first second → slice_get second place ≡ Some x → x.least ≡ Some least → least ≤ reach → IsLater cap reach next →
+    GetsOn first second → slice_get second place ≡ Some x → x.least ≡ Some least → least ≤ reach → IsLater cap reach next →
     HasLeastAt second place next third → (limit : ℕ) → length third ≤ limit → turns_left limit third < turns_left limit first
 turns_expanded cap first second third place least reach x next range on at open_ near later has limit le =
     let y = with_least next x in
@@ -426,8 +426,8 @@ rounds_lessen limit old new few less = by (nat_lt limit (length old)) (nat_lt li
     by false true e f = omega arith
     by false false e f = let lt = less (ltb-false limit (length new) f) in omega (arith, lt)
 
-pub goes_expanded : (first second third : List Entry) (place : ℕ) (x : Entry) (next : Option ℕ) → GoesOn first second → slice_get second place ≡ Some x →
-    HasLeastAt second place next third → ((limit : ℕ) → length third ≤ limit → turns_left limit third < turns_left limit first) → GoesOn first third
+pub goes_expanded : (first second third : List Entry) (place : ℕ) (x : Entry) (next : Option ℕ) → GetsOn first second → slice_get second place ≡ Some x →
+    HasLeastAt second place next third → ((limit : ℕ) → length third ≤ limit → turns_left limit third < turns_left limit first) → GetsOn first third
 goes_expanded first second third place x next on at has fewer =
     let long = length-set second place (with_least next x) in
     let size = ap (λ (xs : List Entry). length xs) (has x at) in
@@ -436,7 +436,7 @@ goes_expanded first second third place x next on at has fewer =
       turns = λ limit le. (let less = fewer limit le in omega (arith, less));
     }
 
-pub goes_then : (first second third : List Entry) → GoesOn first second → GoesOn second third → GoesOn first third
+pub goes_then : (first second third : List Entry) → GetsOn first second → GetsOn second third → GetsOn first third
 goes_then first second third one two =
     let a = one.more in
     let b = two.more in record {
@@ -445,7 +445,7 @@ goes_then first second third one two =
     }
 
 pub turns_then : (limit : ℕ) (first second third : List Entry) → (length second ≤ limit → turns_left limit second < turns_left limit first) →
-    GoesOn second third → length third ≤ limit → turns_left limit third < turns_left limit first
+    GetsOn second third → length third ≤ limit → turns_left limit third < turns_left limit first
 turns_then limit first second third less on le =
     let more = on.more in
     let p = less (omega (arith, more, le)) in

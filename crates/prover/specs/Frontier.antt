@@ -24,8 +24,8 @@ Keeps board most Kept k s = (m : ℕ) → k + suc m ≤ most → ¬ (IsSolved bo
     (t : Scene) × Kept t × SolvableWithin board m t
 
 -- the position was found with at most k pushes
-abbrev pub IsFound : List Entry → ℕ → Scene → Type 0
-IsFound all k s = (i : ℕ) × (x : Entry) × (slice_get all i ≡ Some x) × (x.position ≡ s) × (x.pushes ≤ k)
+abbrev pub IsFoundWithin : List Entry → ℕ → Scene → Type 0
+IsFoundWithin all k s = (i : ℕ) × (x : Entry) × (slice_get all i ≡ Some x) × (x.position ≡ s) × (x.pushes ≤ k)
 
 -- ---- what holds of each position that was found
 
@@ -33,7 +33,7 @@ IsFound all k s = (i : ℕ) × (x : Entry) × (slice_get all i ≡ Some x) × (x
 -- and what its expansion has to keep was found
 pub record IsDoneFor (board : Board) (most : ℕ) (all : List Entry) (x : Entry) : Type 0 where
   pub unsolved : IsSolved board x.position → most < x.pushes
-  pub keeps : Keeps board most (IsFound all (suc x.pushes)) x.pushes x.position
+  pub keeps : Keeps board most (IsFoundWithin all (suc x.pushes)) x.pushes x.position
 
 -- a play that leads to the position with these pushes and goes on to a solved one has at least `total` pushes in all
 abbrev pub IsBound : Board → ℕ → Scene → ℕ → Type 0
@@ -55,13 +55,13 @@ abbrev pub NoneGoesOn : Board → Option ℕ → ℕ → Scene → Type 0
 NoneGoesOn board cap pushes s = (rest : ℕ) → Allows cap (pushes + rest) → ¬ (SolvableWithin board rest s)
 
 -- the number is less than an open position's least total; a closed one has none
-abbrev pub IsBefore : Option ℕ → ℕ → Type 0
-IsBefore None m = Unit {0}
-IsBefore (Some least) m = m < least
+abbrev pub IsBelowLeast : Option ℕ → ℕ → Type 0
+IsBelowLeast None m = Unit {0}
+IsBelowLeast (Some least) m = m < least
 
 -- an open position is done for all totals below its least, and a closed one for all that the cap allows
 abbrev pub IsSettled : Board → Option ℕ → List Entry → Entry → Type 0
-IsSettled board cap all x = (most : ℕ) → Allows cap most → IsBefore x.least most → IsDoneFor board most all x
+IsSettled board cap all x = (most : ℕ) → Allows cap most → IsBelowLeast x.least most → IsDoneFor board most all x
 
 -- the parent was found with fewer pushes, and the push leads from it to the position; without a parent it is the start
 abbrev pub ComesFrom : Board → List Entry → Entry → Option Parent → Type 0
@@ -70,25 +70,25 @@ ComesFrom board all x (Some step) = (y : Entry) × (slice_get all step.place ≡
     CanPush board y.position step.push × IsNorm board (after_push board y.position step.push) x.position
 
 -- what is true of each position that was found
-pub record IsSound (board : Board) (cap : Option ℕ) (all : List Entry) (x : Entry) : Type 0 where
+pub record IsSoundEntry (board : Board) (cap : Option ℕ) (all : List Entry) (x : Entry) : Type 0 where
   pub fits : FitsLevel board x.position
   pub reached : IsReachable board x.position
   pub from : ComesFrom board all x x.parent
   pub total : (least : ℕ) → x.least ≡ Some least → IsLeast cap x.pushes least
   pub settled : IsSettled board cap all x
 
-abbrev pub AreSound : Board → Option ℕ → List Entry → Type 0
-AreSound board cap all = (i : ℕ) (x : Entry) → slice_get all i ≡ Some x → IsSound board cap all x
+abbrev pub AreSoundEntries : Board → Option ℕ → List Entry → Type 0
+AreSoundEntries board cap all = (i : ℕ) (x : Entry) → slice_get all i ≡ Some x → IsSoundEntry board cap all x
 
 -- each was found with fewer pushes than there are positions
 abbrev pub AreFew : List Entry → Type 0
 AreFew all = (i : ℕ) (x : Entry) → slice_get all i ≡ Some x → x.pushes < length all
 
 -- a search is under way: it began with the start
-pub record IsUnderWay (board : Board) (cap : Option ℕ) (all : List Entry) : Type 0 where
-  pub begun : (n : Scene) × IsNorm board (start board) n × IsFound all 0 n
+pub record IsSearchUnderWay (board : Board) (cap : Option ℕ) (all : List Entry) : Type 0 where
+  pub begun : (n : Scene) × IsNorm board (start board) n × IsFoundWithin all 0 n
   pub few : AreFew all
-  pub sound : AreSound board cap all
+  pub sound : AreSoundEntries board cap all
 
 -- some open position leads to a solution with at most m pushes in all
 pub record IsOnTheWay (board : Board) (m : ℕ) (all : List Entry) : Type 0 where
@@ -107,8 +107,8 @@ abbrev pub AreFrom : ℕ → List Entry → Type 0
 AreFrom k all = (i : ℕ) (x : Entry) (least : ℕ) → slice_get all i ≡ Some x → x.least ≡ Some least → k ≤ least
 
 -- no position is open
-abbrev pub AreClosed : List Entry → Type 0
-AreClosed all = (i : ℕ) (x : Entry) → slice_get all i ≡ Some x → x.least ≡ None
+abbrev pub NoneIsOpen : List Entry → Type 0
+NoneIsOpen all = (i : ℕ) (x : Entry) → slice_get all i ≡ Some x → x.least ≡ None
 
 -- ---- the laws
 
@@ -116,16 +116,16 @@ AreClosed all = (i : ℕ) (x : Entry) → slice_get all i ≡ Some x → x.least
 -- most m
 abbrev pub NothingIsLost : Board → Type 0
 NothingIsLost board =
-    IsLevel board → (cap : Option ℕ) (all : List Entry) (m : ℕ) → IsUnderWay board cap all → Allows cap m →
+    IsLevel board → (cap : Option ℕ) (all : List Entry) (m : ℕ) → IsSearchUnderWay board cap all → Allows cap m →
     SolvableWithin board m (start board) → IsOnTheWay board m all
 
 -- so each solution that the cap allows has at least as many pushes as the least total of all open positions
 abbrev pub LeastBounds : Board → Type 0
 LeastBounds board =
-    IsLevel board → (cap : Option ℕ) (all : List Entry) (k : ℕ) → IsUnderWay board cap all → AreFrom k all →
+    IsLevel board → (cap : Option ℕ) (all : List Entry) (k : ℕ) → IsSearchUnderWay board cap all → AreFrom k all →
     (ds : List Dir) (ps : List Push) → IsSolution board ds ps → Allows cap (length ps) → k ≤ length ps
 
 -- and where no position is open, there is no solution that the cap allows
 abbrev pub ClosedDecides : Board → Type 0
-ClosedDecides board = IsLevel board → (cap : Option ℕ) (all : List Entry) → IsUnderWay board cap all → AreClosed all →
-    (ds : List Dir) (ps : List Push) → IsSolution board ds ps → ¬ (Allows cap (length ps))
+ClosedDecides board = IsLevel board → (cap : Option ℕ) (all : List Entry) → IsSearchUnderWay board cap all →
+    NoneIsOpen all → (ds : List Dir) (ps : List Push) → IsSolution board ds ps → ¬ (Allows cap (length ps))

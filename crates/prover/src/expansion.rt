@@ -2,7 +2,7 @@
 //! solution needs, and leaves those with a greater total for later. What it finds depends on the position, on the
 //! pushes that led to it and on the total that the search has reached, and not on what else was found.
 ghost use Rattle.std.specs.Prelude.{◌≡◌, ℕ, ◌<◌, ◌≤◌, OnOk, [], length};
-ghost use Rattle.prover.specs.inside.Working.{GoesOn, IsExpandable, IsExpansion, IsReady, IsSearched};
+ghost use Rattle.prover.specs.inside.Working.{GetsOn, IsExpandable, IsExpansion, MayBeExpanded, IsSearchOnBoard};
 ghost use Rattle.prover.specs.inside.Working.{IsWaiting, turns_left};
 
 use crate::frontier::Frontier;
@@ -21,12 +21,12 @@ pub(crate) fn expand(
     from: &Expanded,
     workspace: &mut Workspace<'_>,
 ) -> Result<(), AllocError>
-    requires searched { IsSearched pruner.now.board pruner.now.cap frontier.old }
+    requires searched { IsSearchOnBoard pruner.now.board pruner.now.cap frontier.old }
     requires waits { IsWaiting frontier.old.entries from.now }
-    requires ready { IsReady pruner.now.board from.now }
+    requires ready { MayBeExpanded pruner.now.board from.now }
     requires task { workspace.old.expander.task ≡ pruner.now }
-    ensures searched { OnOk result (IsSearched pruner.now.board pruner.now.cap frontier.new) }
-    ensures goes_on { OnOk result (GoesOn frontier.old.entries frontier.new.entries) }
+    ensures searched { OnOk result (IsSearchOnBoard pruner.now.board pruner.now.cap frontier.new) }
+    ensures goes_on { OnOk result (GetsOn frontier.old.entries frontier.new.entries) }
     ensures fewer_turns { OnOk result ((limit : ℕ) → length frontier.new.entries ≤ limit →
         turns_left limit frontier.new.entries < turns_left limit frontier.old.entries) }
     ensures task { workspace.new.expander.task ≡ workspace.old.expander.task }

@@ -6,7 +6,7 @@ ghost use Rattle.grid.specs.Lawful.{box_count};
 ghost use Rattle.store.specs.FoundView.{FitsGrid};
 ghost use Rattle.store.specs.Visited.{Entry};
 ghost use Rattle.successors.specs.Distances.{AreDistinct};
-ghost use Rattle.prover.specs.Frontier.{AreClosed};
+ghost use Rattle.prover.specs.Frontier.{NoneIsOpen};
 ghost use Rattle.std.specs.BinaryHeap.{heap_capacity, heap_items, heap_len};
 ghost use Rattle.prover.specs.inside.Waiting.{tickets};
 ghost use Rattle.prover.specs.inside.Working.{Enters, HasLeastAt, IsLeastOpen, IsQueued, IsWaiting, SameSize, Waits};
@@ -138,7 +138,7 @@ impl Frontier {
     /// memory.
     pub(crate) fn least_open(&mut self) -> Result<Option<(usize, u32)>, AllocError>
         ensures some { IfOk result (λ least. IfSome least (λ found. IsLeastOpen self.new.entries found.0 found.1)) }
-        ensures none { IfOk result (λ least. IfNone least (AreClosed self.new.entries)) }
+        ensures none { IfOk result (λ least. IfNone least (NoneIsOpen self.new.entries)) }
         ensures same { self.new ≡ self.old }
     {
         put_back(&self.visited, &mut self.queue)?;

@@ -2,7 +2,7 @@
 ghost use Rattle.std.specs.Prelude.{◌≡◌, IfOk, OnOk};
 ghost use Rattle.successors.specs.Tasks.{Task};
 ghost use Rattle.prover.specs.inside.Rounds.{AreJobs, IsJob, IsLane};
-ghost use Rattle.prover.specs.inside.Working.{IsReady};
+ghost use Rattle.prover.specs.inside.Working.{MayBeExpanded};
 
 use crate::expansion::open_all;
 use crate::pruner::Pruner;
@@ -54,7 +54,7 @@ impl<'a> Lane<'a> {
         pruner: &Pruner<'_>,
         from: Expanded,
     ) -> Result<(), AllocError>
-        requires ready { IsReady pruner.now.board from }
+        requires ready { MayBeExpanded pruner.now.board from }
         requires lane { IsLane pruner.now self.old }
         ensures { OnOk result (IsLane pruner.now self.new) }
     {

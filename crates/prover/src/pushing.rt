@@ -2,8 +2,8 @@
 ghost use Rattle.std.specs.Prelude.{◌≡◌, ◌+◌, ℕ, suc, OnOk};
 ghost use Rattle.area.specs.Pushes.{CanPush};
 ghost use Rattle.successors.specs.Expanding.{HasPushesOf};
-ghost use Rattle.prover.specs.inside.Working.{Defers, IsChosen, IsExpandable, IsOpenedPosition, IsTaken, Opens};
-ghost use Rattle.prover.specs.inside.Working.{lesser, tighter};
+ghost use Rattle.prover.specs.inside.Working.{Defers, IsChosen, IsExpandable, IsOpenedPosition, IsPushDone, Opens};
+ghost use Rattle.prover.specs.inside.Working.{lesser_total, tighter};
 
 use crate::pruner::{Pruner, total_of};
 use crate::workspace::Workspace;
@@ -46,7 +46,7 @@ pub(crate) fn try_push(
     requires expandable { IsExpandable pruner.now.board from.now }
     requires slack { (slack.now.board ≡ pruner.now.board) × (slack.now.scene ≡ from.now.position) }
     ensures taken { OnOk result (IsChosen only workspace.old.corral.held push →
-        IsTaken pruner.now.board (tighter pruner.now.cap workspace.new.next)
+        IsPushDone pruner.now.board (tighter pruner.now.cap workspace.new.next)
         (IsOpenedPosition workspace.new.opened.items) from.now.pushes from.now.position push) }
     ensures defers { OnOk result (Defers pruner.now.cap from.now.reach workspace.old.next workspace.new.next) }
     ensures opens { OnOk result (Opens pruner.now.board pruner.now.cap from.now workspace.old.opened.items
@@ -86,7 +86,7 @@ fn open_after(
     requires found { HasPushesOf workspace.old.expander from.now.position }
     requires possible { CanPush pruner.now.board from.now.position push }
     requires expandable { IsExpandable pruner.now.board from.now }
-    ensures taken { OnOk result (IsTaken pruner.now.board (tighter pruner.now.cap workspace.new.next)
+    ensures taken { OnOk result (IsPushDone pruner.now.board (tighter pruner.now.cap workspace.new.next)
         (IsOpenedPosition workspace.new.opened.items) from.now.pushes from.now.position push) }
     ensures defers { OnOk result (Defers pruner.now.cap from.now.reach workspace.old.next workspace.new.next) }
     ensures opens { OnOk result (Opens pruner.now.board pruner.now.cap from.now workspace.old.opened.items
@@ -119,7 +119,7 @@ fn open_after(
 
 // The total, or the number, if it is less.
 fn lesser(next: Option<u32>, total: u32) -> Option<u32>
-    ensures { result ≡ lesser next total }
+    ensures { result ≡ lesser_total next total }
 {
     match next {
         None => Some(total),

@@ -3,7 +3,7 @@ ghost use Rattle.std.specs.Prelude.{◌≡◌, ◌+◌, ◌<◌, ◌⊎◌, ◌+
 ghost use Rattle.std.proofs.Props.{props};
 ghost use Rattle.std.specs.BinaryHeap.{IsHeap, heap_capacity, heap_items, heap_len};
 ghost use Rattle.prover.specs.inside.Tickets.{ticket_cmp};
-ghost use Rattle.prover.specs.inside.Working.{IsFirst, Waits};
+ghost use Rattle.prover.specs.inside.Working.{IsFirstTicket, Waits};
 
 use std::alloc::{AllocError, Global};
 use std::cmp::Reverse;
@@ -63,7 +63,7 @@ impl Queue {
 
     /// The ticket with the least total.
     pub(crate) fn first(&self) -> Option<Ticket>
-        ensures first { IfSome result (λ ticket. IsFirst (heap_items self.now.heap) ticket) }
+        ensures first { IfSome result (λ ticket. IsFirstTicket (heap_items self.now.heap) ticket) }
         ensures none { IfNone result (heap_items self.now.heap ≡ []) }
     {
         self.heap.peek().copied()

@@ -1,10 +1,10 @@
 //! What an expansion has found enters the frontier.
 ghost use Rattle.std.specs.Prelude.{◌≡◌, ℕ, suc, ◌<◌, ◌≤◌, OnOk, length};
 ghost use Rattle.grid.specs.Board.{Scene};
-ghost use Rattle.prover.specs.Frontier.{IsFound};
+ghost use Rattle.prover.specs.Frontier.{IsFoundWithin};
 ghost use Rattle.prover.specs.inside.Working.{AreOpenedBy, IsExpanding, IsExpansion, IsOpenedPosition};
-ghost use Rattle.prover.specs.inside.Working.{IsOpenedBy, IsSearched};
-ghost use Rattle.prover.specs.inside.Working.{GoesOn, IsReady, IsWaiting, Widens, turns_left};
+ghost use Rattle.prover.specs.inside.Working.{IsOpenedBy, IsSearchOnBoard};
+ghost use Rattle.prover.specs.inside.Working.{GetsOn, MayBeExpanded, IsWaiting, Widens, turns_left};
 
 use crate::frontier::Frontier;
 use crate::pruner::Pruner;
@@ -21,12 +21,12 @@ pub(crate) fn enter(
     opened: &[Opened],
     next: Option<u32>,
 ) -> Result<(), AllocError>
-    requires searched { IsSearched pruner.now.board pruner.now.cap frontier.old }
+    requires searched { IsSearchOnBoard pruner.now.board pruner.now.cap frontier.old }
     requires waits { IsWaiting frontier.old.entries from.now }
-    requires ready { IsReady pruner.now.board from.now }
+    requires ready { MayBeExpanded pruner.now.board from.now }
     requires expansion { IsExpansion pruner.now.board pruner.now.cap from.now opened.now next }
-    ensures searched { OnOk result (IsSearched pruner.now.board pruner.now.cap frontier.new) }
-    ensures goes_on { OnOk result (GoesOn frontier.old.entries frontier.new.entries) }
+    ensures searched { OnOk result (IsSearchOnBoard pruner.now.board pruner.now.cap frontier.new) }
+    ensures goes_on { OnOk result (GetsOn frontier.old.entries frontier.new.entries) }
     ensures fewer_turns { OnOk result ((limit : ℕ) → length frontier.new.entries ≤ limit →
         turns_left limit frontier.new.entries < turns_left limit frontier.old.entries) }
 {
@@ -46,7 +46,7 @@ fn enter_all(
     requires each { AreOpenedBy pruner.now.board pruner.now.cap from.now opened.now }
     ensures widens { OnOk result (Widens pruner.now.board pruner.now.cap from.now.pushes frontier.old frontier.new) }
     ensures entered { OnOk result ((t : Scene) → IsOpenedPosition opened.now t →
-        IsFound frontier.new.entries (suc from.now.pushes) t) }
+        IsFoundWithin frontier.new.entries (suc from.now.pushes) t) }
 {
     for index in 0..opened.len() {
         enter_one(pruner, frontier, from, &opened[index])?;
@@ -64,7 +64,7 @@ fn enter_one(
     requires expanding { IsExpanding pruner.now.board pruner.now.cap frontier.old from.now }
     requires opened { IsOpenedBy pruner.now.board pruner.now.cap from.now one.now }
     ensures widens { OnOk result (Widens pruner.now.board pruner.now.cap from.now.pushes frontier.old frontier.new) }
-    ensures found { OnOk result (IsFound frontier.new.entries (suc from.now.pushes) one.now.position) }
+    ensures found { OnOk result (IsFoundWithin frontier.new.entries (suc from.now.pushes) one.now.position) }
 {
     let parent = Parent {
         place: from.place,

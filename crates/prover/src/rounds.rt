@@ -2,7 +2,7 @@
 ghost use Rattle.std.specs.Prelude.{◌≡◌, ◌<◌, ◌≤◌, ◌^◌, IfOk, OnOk, length};
 ghost use Rattle.successors.specs.Tasks.{Task};
 ghost use Rattle.prover.specs.inside.Rounds.{AreLanes, IsDesk, IsJob, IsLane};
-ghost use Rattle.prover.specs.inside.Working.{GoesOn, IsSearched};
+ghost use Rattle.prover.specs.inside.Working.{GetsOn, IsSearchOnBoard};
 
 use crate::expansion::expand;
 use crate::frontier::Frontier;
@@ -56,10 +56,10 @@ pub(crate) fn expand_more<'a, R: Threads + Sync>(
     workers: u8,
     desk: &mut Desk<'a>,
 ) -> Result<(), AllocError>
-    requires searched { IsSearched pruner.now.board pruner.now.cap frontier.old }
+    requires searched { IsSearchOnBoard pruner.now.board pruner.now.cap frontier.old }
     requires desk { IsDesk pruner.now desk.old }
-    ensures searched { OnOk result (IsSearched pruner.now.board pruner.now.cap frontier.new) }
-    ensures goes_on { OnOk result (GoesOn frontier.old.entries frontier.new.entries) }
+    ensures searched { OnOk result (IsSearchOnBoard pruner.now.board pruner.now.cap frontier.new) }
+    ensures goes_on { OnOk result (GetsOn frontier.old.entries frontier.new.entries) }
     ensures desk { OnOk result (IsDesk pruner.now desk.new) }
 {
     let many = frontier.len() / FOUND_EACH;
@@ -119,7 +119,7 @@ fn deal(
     most: usize,
     lanes: &mut [Lane<'_>],
 ) -> Result<usize, AllocError>
-    requires searched { IsSearched pruner.now.board pruner.now.cap frontier.old }
+    requires searched { IsSearchOnBoard pruner.now.board pruner.now.cap frontier.old }
     requires few { length frontier.old.entries < 2 ^ 32 }
     requires lanes { AreLanes pruner.now lanes.old }
     requires all { LANES ≤ length lanes.old }
@@ -181,12 +181,12 @@ fn enter_each(
     count: usize,
     workspace: &mut Workspace<'_>,
 ) -> Result<(), AllocError>
-    requires searched { IsSearched pruner.now.board pruner.now.cap frontier.old }
+    requires searched { IsSearchOnBoard pruner.now.board pruner.now.cap frontier.old }
     requires lanes { AreLanes pruner.now lanes.now }
     requires all { LANES ≤ length lanes.now }
     requires task { workspace.old.expander.task ≡ pruner.now }
-    ensures searched { OnOk result (IsSearched pruner.now.board pruner.now.cap frontier.new) }
-    ensures goes_on { OnOk result (GoesOn frontier.old.entries frontier.new.entries) }
+    ensures searched { OnOk result (IsSearchOnBoard pruner.now.board pruner.now.cap frontier.new) }
+    ensures goes_on { OnOk result (GetsOn frontier.old.entries frontier.new.entries) }
     ensures task { workspace.new.expander.task ≡ workspace.old.expander.task }
 {
     for index in 0..count {
@@ -207,11 +207,11 @@ fn enter_job(
     job: &Job,
     workspace: &mut Workspace<'_>,
 ) -> Result<(), AllocError>
-    requires searched { IsSearched pruner.now.board pruner.now.cap frontier.old }
+    requires searched { IsSearchOnBoard pruner.now.board pruner.now.cap frontier.old }
     requires job { IsJob pruner.now job.now }
     requires task { workspace.old.expander.task ≡ pruner.now }
-    ensures searched { OnOk result (IsSearched pruner.now.board pruner.now.cap frontier.new) }
-    ensures goes_on { OnOk result (GoesOn frontier.old.entries frontier.new.entries) }
+    ensures searched { OnOk result (IsSearchOnBoard pruner.now.board pruner.now.cap frontier.new) }
+    ensures goes_on { OnOk result (GetsOn frontier.old.entries frontier.new.entries) }
     ensures task { workspace.new.expander.task ≡ workspace.old.expander.task }
 {
     let waits = frontier.waits(&job.from);

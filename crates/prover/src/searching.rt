@@ -10,7 +10,7 @@ ghost use Rattle.successors.specs.Capping.{capped};
 ghost use Rattle.prover.specs.Fewest.{NoneHasFewer};
 ghost use Rattle.prover.specs.Outcomes.{IsOutcome};
 ghost use Rattle.prover.specs.inside.SearchEnds.{Tells, none_by};
-ghost use Rattle.prover.specs.inside.Working.{IsSearched};
+ghost use Rattle.prover.specs.inside.Working.{IsSearchOnBoard};
 
 use crate::expansion::expand;
 use crate::frontier::Frontier;
@@ -119,7 +119,7 @@ fn begun(
     requires norm { IsNorm level.now (start level.now) normal.now }
     requires fits { FitsLevel level.now normal.now }
     requires few { box_count level.now ≤ MAX_BOXES }
-    ensures { IfOk result (λ frontier. IsSearched level.now cap frontier) }
+    ensures { IfOk result (λ frontier. IsSearchOnBoard level.now cap frontier) }
 {
     let mut frontier = Frontier::of(alloc, level);
     frontier.open_at(normal, 0, 0, None)?;
@@ -136,9 +136,9 @@ fn run_on<R: Threads + Sync>(
     workers: u8,
     frontier: &mut Frontier,
 ) -> Result<SearchEnd, AllocError>
-    requires searched { IsSearched level.now cap frontier.old }
+    requires searched { IsSearchOnBoard level.now cap frontier.old }
     requires few { box_count level.now ≤ MAX_BOXES }
-    ensures searched { OnOk result (IsSearched level.now cap frontier.new) }
+    ensures searched { OnOk result (IsSearchOnBoard level.now cap frontier.new) }
     ensures tells { IfOk result (λ end. Tells level.now cap limit frontier.new.entries end) }
 {
     let problem = problem_of(alloc, level, cap)?;
@@ -162,9 +162,9 @@ fn run_over<R: Threads + Sync>(
     workers: u8,
     frontier: &mut Frontier,
 ) -> Result<SearchEnd, AllocError>
-    requires searched { IsSearched problem.now.board problem.now.cap frontier.old }
+    requires searched { IsSearchOnBoard problem.now.board problem.now.cap frontier.old }
     requires few { box_count problem.now.board ≤ MAX_BOXES }
-    ensures searched { OnOk result (IsSearched problem.now.board problem.now.cap frontier.new) }
+    ensures searched { OnOk result (IsSearchOnBoard problem.now.board problem.now.cap frontier.new) }
     ensures tells { IfOk result (λ end. Tells problem.now.board problem.now.cap limit frontier.new.entries end) }
 {
     let mut pruner = Pruner::of(alloc, problem)?;
@@ -180,8 +180,8 @@ fn run_all<R: Threads + Sync>(
     workers: u8,
     frontier: &mut Frontier,
 ) -> Result<SearchEnd, AllocError>
-    requires searched { IsSearched pruner.old.board pruner.old.cap frontier.old }
-    ensures searched { OnOk result (IsSearched pruner.old.board pruner.old.cap frontier.new) }
+    requires searched { IsSearchOnBoard pruner.old.board pruner.old.cap frontier.old }
+    ensures searched { OnOk result (IsSearchOnBoard pruner.old.board pruner.old.cap frontier.new) }
     ensures tells { IfOk result (λ end. Tells pruner.old.board pruner.old.cap limit frontier.new.entries end) }
 {
     let mut reach = 0;
@@ -252,9 +252,9 @@ fn run<R: Threads + Sync>(
     workers: u8,
     frontier: &mut Frontier,
 ) -> Result<SearchEnd, AllocError>
-    requires searched { IsSearched pruner.now.board pruner.now.cap frontier.old }
+    requires searched { IsSearchOnBoard pruner.now.board pruner.now.cap frontier.old }
     requires told { NoneHasFewer pruner.now.board reach }
-    ensures searched { OnOk result (IsSearched pruner.now.board pruner.now.cap frontier.new) }
+    ensures searched { OnOk result (IsSearchOnBoard pruner.now.board pruner.now.cap frontier.new) }
     ensures tells { IfOk result (λ end. Tells pruner.now.board pruner.now.cap limit frontier.new.entries end) }
 {
     let mut desk = Desk::new(alloc, pruner)?;
@@ -295,7 +295,7 @@ fn outcome_of(
     limit: u32,
     end: SearchEnd,
 ) -> Result<Outcome, AllocError>
-    requires searched { IsSearched level.now cap frontier.now }
+    requires searched { IsSearchOnBoard level.now cap frontier.now }
     requires tells { Tells level.now cap limit frontier.now.entries end }
     ensures { IfOk result (λ outcome. IsOutcome level.now cap limit outcome) }
 {

@@ -27,7 +27,7 @@ use Rattle.successors.specs.Expansion.{after_push}
 use Rattle.successors.specs.LeastPlays.{ArePlayed, WritesLeastPlay}
 use Rattle.shortest.specs.Shortest.{NoneIsBetter}
 use Rattle.shortest.specs.inside.Resting.{EndsSolvedBy}
-use Rattle.shortest.specs.inside.Listing.{AreAll, IsAtPlace, StatesView}
+use Rattle.shortest.specs.inside.Listing.{AreAllExpanded, IsEntryAt, StatesView}
 use Rattle.shortest.specs.inside.Resting.{AreRests, Finishes, IsOnward, IsReading, IsRestOf, IsWay}
 use Rattle.shortest.specs.inside.Walking.{IsWalkLength}
 use Rattle.shortest.specs.declared.ways.Way.{Way}
@@ -64,7 +64,7 @@ pushes_left (suc k) (suc most) le = let (m, sum) = pushes_left k most (omega (ar
 -- ---- reading
 
 -- the start, from which nothing is read yet
-pub reading_begun : (v : StatesView) (rests : List (Option ℕ)) → AreAll v → SomeHas v.board v.most → AreRests v.board v.most 0 v.entries rests →
+pub reading_begun : (v : StatesView) (rests : List (Option ℕ)) → AreAllExpanded v → SomeHas v.board v.most → AreRests v.board v.most 0 v.entries rests →
     (total : ℕ) × (slice_get rests 0 ≡ Some (Some total)) × IsReading v.board v.entries rests total 0 []
 reading_begun v rests are some is = by (in_range rests 0 (let lt = slice_get_within v.entries 0 x at_x in let many = is.many in omega (arith, lt, many)))
   where
@@ -99,7 +99,7 @@ reading_begun v rests are some is = by (in_range rests 0 (let lt = slice_get_wit
 
 -- the rests of the states behind a place are known
 pub reading_onward : (v : StatesView) (rests : List (Option ℕ)) (place k : ℕ) (s : Scene) → AreRests v.board v.most 0 v.entries rests →
-    IsAtPlace v.entries place s k → k < v.most → IsOnward v rests k s
+    IsEntryAt v.entries place s k → k < v.most → IsOnward v rests k s
 reading_onward v rests place k s is here fewer = record {
   place = place;
   at_place = here;
@@ -109,14 +109,14 @@ reading_onward v rests place k s is here fewer = record {
 
 -- as many pushes are read as lead to the place
 pub reading_count : (v : StatesView) (rests : List (Option ℕ)) (total place k : ℕ) (s : Scene) (read : List Push) →
-    IsReading v.board v.entries rests total place read → IsAtPlace v.entries place s k → length read ≡ k
+    IsReading v.board v.entries rests total place read → IsEntryAt v.entries place s k → length read ≡ k
 reading_count v rests total place k s read reading here =
     let (same, many) = one_at v.entries place reading.entry.pushes k reading.entry.position s (reading.entry, reading.at, refl, refl) here in
     reading.count ∙ many
 
 -- the fewest moves from the place that is read
 pub rest_here : (v : StatesView) (rests : List (Option ℕ)) (total place k m : ℕ) (s : Scene) (read : List Push) → AreRests v.board v.most 0 v.entries rests →
-    IsReading v.board v.entries rests total place read → IsAtPlace v.entries place s k → k + m ≡ v.most → (r : ℕ) × IsRestOf v.board m s (Some r) ×
+    IsReading v.board v.entries rests total place read → IsEntryAt v.entries place s k → k + m ≡ v.most → (r : ℕ) × IsRestOf v.board m s (Some r) ×
     ((ps : List Push) → Finishes v.board s ps r → Finishes v.board (start v.board) (read ++ ps) total) × (length read ≡ k)
 rest_here v rests total place k m s read is reading here sum =
     let (same, many) = one_at v.entries place reading.entry.pushes k reading.entry.position s (reading.entry, reading.at, refl, refl) here in (
@@ -129,7 +129,7 @@ rest_here v rests total place k m s read is reading here sum =
 
 -- some way leads on
 pub way_exists : (v : StatesView) (rests : List (Option ℕ)) (total place k : ℕ) (s : Scene) (read : List Push) → AreRests v.board v.most 0 v.entries rests →
-    IsReading v.board v.entries rests total place read → IsAtPlace v.entries place s k → k < v.most →
+    IsReading v.board v.entries rests total place read → IsEntryAt v.entries place s k → k < v.most →
     ((m : ℕ) → k + suc m ≡ v.most → IsRestOf v.board (suc m) s None) → ⊥
 way_exists v rests total place k s read is reading here fewer none =
     let (m, sum) = pushes_left (suc k) v.most (omega (arith, fewer)) in
@@ -139,8 +139,8 @@ way_exists v rests total place k s read is reading here fewer none =
     (none m at_all).is.least ds ps t play solved few
 
 -- one more push is read
-pub reading_more : (v : StatesView) (rests : List (Option ℕ)) (total place k : ℕ) (s : Scene) (read : List Push) (way : Way) → AreAll v →
-    AreRests v.board v.most 0 v.entries rests → IsReading v.board v.entries rests total place read → IsAtPlace v.entries place s k → k < v.most →
+pub reading_more : (v : StatesView) (rests : List (Option ℕ)) (total place k : ℕ) (s : Scene) (read : List Push) (way : Way) → AreAllExpanded v →
+    AreRests v.board v.most 0 v.entries rests → IsReading v.board v.entries rests total place read → IsEntryAt v.entries place s k → k < v.most →
     IsWay v.board v.entries rests k s way → ((m : ℕ) → k + suc m ≡ v.most → IsRestOf v.board (suc m) s (Some way.moves)) →
     IsReading v.board v.entries rests total way.place (read ++ way.push ∷ [])
 reading_more v rests total place k s read way are is reading here fewer w best =
@@ -178,8 +178,8 @@ reading_more v rests total place k s read way are is reading here fewer w best =
         )
 
 -- all pushes are read
-pub reading_ended : (v : StatesView) (rests : List (Option ℕ)) (total place k : ℕ) (s : Scene) (read : List Push) → AreAll v →
-    AreRests v.board v.most 0 v.entries rests → IsReading v.board v.entries rests total place read → IsAtPlace v.entries place s k → v.most ≤ k →
+pub reading_ended : (v : StatesView) (rests : List (Option ℕ)) (total place k : ℕ) (s : Scene) (read : List Push) → AreAllExpanded v →
+    AreRests v.board v.most 0 v.entries rests → IsReading v.board v.entries rests total place read → IsEntryAt v.entries place s k → v.most ≤ k →
     (length read ≡ v.most) × Finishes v.board (start v.board) read total
 reading_ended v rests total place k s read are is reading (x, at_x, at_s, at_k) enough =
     let few = (are.listed.each place x at_x).few in
@@ -194,7 +194,7 @@ reading_ended v rests total place k s read are is reading (x, at_x, at_s, at_k) 
     none_left (ds, p ∷ ps, t, play, solved, few, many) = absurd (omega (arith, few))
 
 -- as many pushes are read as the solution has
-pub reading_done : (v : StatesView) (rests : List (Option ℕ)) (total place : ℕ) (read : List Push) → AreAll v → AreRests v.board v.most 0 v.entries rests →
+pub reading_done : (v : StatesView) (rests : List (Option ℕ)) (total place : ℕ) (read : List Push) → AreAllExpanded v → AreRests v.board v.most 0 v.entries rests →
     IsReading v.board v.entries rests total place read → v.most ≤ length read → (length read ≡ v.most) × Finishes v.board (start v.board) read total
 reading_done v rests total place read are is reading enough =
     reading_ended v rests total place reading.entry.pushes reading.entry.position read are is reading (reading.entry, reading.at, refl, refl)
@@ -210,7 +210,7 @@ pub played_by : (board : Board) (ps : List Push) (total : ℕ) → Finishes boar
 played_by board ps total (ds, t, play, solved, many) = (ds, t, play)
 
 -- the least play with the pushes that were read is the best solution
-pub best_solution : (v : StatesView) (rests : List (Option ℕ)) (total : ℕ) (ps : List Push) (t : Scene) (moves : List Letter) → AreAll v →
+pub best_solution : (v : StatesView) (rests : List (Option ℕ)) (total : ℕ) (ps : List Push) (t : Scene) (moves : List Letter) → AreAllExpanded v →
     AreRests v.board v.most 0 v.entries rests → slice_get rests 0 ≡ Some (Some total) → length ps ≡ v.most → Finishes v.board (start v.board) ps total →
     WritesLeastPlay v.board ps t moves → IsVerdict v.board moves (Solved v.most (length moves)) × NoneIsBetter v.board v.most (length moves)
 best_solution v rests total ps t moves are is first_is long (ds, u, play, solved, many) writes = (

@@ -19,7 +19,7 @@ use Rattle.prices.specs.Helping.{NeverHelps, SlackView}
 use Rattle.prices.specs.Solving.{Allows, NoneWithin, SolvableWithin}
 use Rattle.prices.proofs.lemmas.Helping.{never_leads_on}
 use Rattle.prices.proofs.lemmas.Solving.{none_is_not_solvable}
-use Rattle.prover.specs.Frontier.{IsFound}
+use Rattle.prover.specs.Frontier.{IsFoundWithin}
 use Rattle.prover.proofs.lemmas.Pruning.{after_scene, pushed_from, pushed_push}
 use Rattle.store.specs.FoundView.{FitsGrid}
 use Rattle.store.specs.Visited.{Entry, HasEntered, entry_of}
@@ -29,7 +29,7 @@ use Rattle.successors.specs.Distances.{AreDistinct}
 use Rattle.successors.specs.Expansion.{after_push}
 use Rattle.successors.proofs.lemmas.Lists.{at-push, at_before, at_seam}
 use Rattle.shortest.specs.Shortest.{HasMoreStates, IsReachedBy}
-use Rattle.shortest.specs.inside.Listing.{AreKept, AreListed, IsAfter, IsAtPlace, IsKept, IsReachedState, KeepsEach, Lists, ListsIf}
+use Rattle.shortest.specs.inside.Listing.{ArePushesKept, AreStatesListed, IsAfter, IsEntryAt, IsListedOrLost, IsReachedState, KeepsEach, Lists, ListsIf}
 
 -- ---- lists
 
@@ -43,7 +43,7 @@ in_range (x ∷ xs) (suc i) lt = in_range xs i (omega (arith, lt))
 pub read_push : (xs ys : List Push) (i : ℕ) (p : Push) → xs ≡ ys → i < length xs → p ≡ get_or xs i p → slice_get ys i ≡ Some p
 read_push xs ys i p same lt is = subst (λ (zs : List Push). slice_get zs i ≡ Some p) same (slice_get_read xs (length xs) i p refl lt is)
 
-found_front : (old : List Entry) (e : Entry) (k : ℕ) (s : Scene) → IsFound old k s → IsFound (old ++ e ∷ []) k s
+found_front : (old : List Entry) (e : Entry) (k : ℕ) (s : Scene) → IsFoundWithin old k s → IsFoundWithin (old ++ e ∷ []) k s
 found_front old e k s (i, x, at_i, same, le) = (i, x, at_before old (e ∷ []) i x at_i, same, le)
 
 -- ---- one more state
@@ -57,7 +57,7 @@ lists_by old new e None most (is, (i, x, at_i, same, le)) = inl (is, (i, x, at_i
 
 -- the list of the start alone
 pub first_listed : (board : Board) (most : ℕ) (old new : List Entry) (e : Entry) (place : Option ℕ) → old ≡ [] → FitsLevel board e.position →
-    e.position ≡ start board → e.pushes ≡ 0 → HasEntered old new e place → AreListed board most 0 new
+    e.position ≡ start board → e.pushes ≡ 0 → HasEntered old new e place → AreStatesListed board most 0 new
 first_listed board most old new e place none fits first zero_ entered = by (lists_by [] new e place (λ i x at_i. absurd (none-some x at_i))
     (subst (λ (xs : List Entry). HasEntered xs new e place) none entered))
   where
@@ -68,7 +68,7 @@ first_listed board most old new e place none fits first zero_ entered = by (list
     count : (i : ℕ) (x : Entry) → slice_get (e ∷ []) i ≡ Some x → x.pushes ≡ 0
     count i x at_i = ap (λ (y : Entry). y.pushes) (only i x at_i) ∙ zero_
 
-    alone : AreListed board most 0 (e ∷ [])
+    alone : AreStatesListed board most 0 (e ∷ [])
     alone = record {
       begun = (e, refl, first, zero_);
       each = λ i x at_i. subst (IsReachedState board most) (sym (only i x at_i)) (record {
@@ -81,9 +81,9 @@ first_listed board most old new e place none fits first zero_ entered = by (list
       expanded = λ i x lt at_i. absurd (omega (arith, lt));
     }
 
-    by : Lists [] new e → AreListed board most 0 new
+    by : Lists [] new e → AreStatesListed board most 0 new
     by (inl (is, (i, x, at_i, same, le))) = absurd (none-some x at_i)
-    by (inr is) = subst (AreListed board most 0) (sym is) alone
+    by (inr is) = subst (AreStatesListed board most 0) (sym is) alone
 
 -- a play goes on by a push
 pub reached_after : (board : Board) (k : ℕ) (s : Scene) (p : Push) → IsScene board s → CanPush board s p → IsReachedBy board k s →
@@ -99,8 +99,8 @@ reached_after board k s p scene can (ds, ps, play, many) =
       omega (arith, long, many),
     )
 
-module _ (board : Board) (most place : ℕ) (old : List Entry) (k : ℕ) (s : Scene) (p : Push) (listed : AreListed board most place old)
-    (at_place : IsAtPlace old place s k) (fewer : k < most) (can : CanPush board s p) where
+module _ (board : Board) (most place : ℕ) (old : List Entry) (k : ℕ) (s : Scene) (p : Push) (listed : AreStatesListed board most place old)
+    (at_place : IsEntryAt old place s k) (fewer : k < most) (can : CanPush board s p) where
   same : at_place.0.position ≡ s
   same = at_place.2
 
@@ -112,7 +112,7 @@ module _ (board : Board) (most place : ℕ) (old : List Entry) (k : ℕ) (s : Sc
   scene = subst (IsScene board) same (listed.each place at_place.0 at_place.1).fits.scene
 
   -- the state after a push comes last
-  one_more : (e : Entry) → e.position ≡ after_push board s p → e.pushes ≡ suc k → FitsLevel board e.position → AreListed board most place (old ++ e ∷ [])
+  one_more : (e : Entry) → e.position ≡ after_push board s p → e.pushes ≡ suc k → FitsLevel board e.position → AreStatesListed board most place (old ++ e ∷ [])
   one_more e there count fits = record {
     begun = (let (y, at_y, first, zero_) = listed.begun in (y, at_before old (e ∷ []) 0 y at_y, first, zero_));
     each = λ i y at_i. elim (at-push old e i y at_i) [
@@ -159,14 +159,14 @@ module _ (board : Board) (most place : ℕ) (old : List Entry) (k : ℕ) (s : Sc
 
   -- a longer list
   longer_on : (new : List Entry) (e : Entry) (pushes : List Push) (i : ℕ) → e.position ≡ after_push board s p → e.pushes ≡ suc k → FitsLevel board e.position →
-      slice_get pushes i ≡ Some p → new ≡ old ++ e ∷ [] → AreKept board most old k s pushes i →
-      AreListed board most place new × IsAtPlace new place s k × AreKept board most new k s pushes (i + 1)
+      slice_get pushes i ≡ Some p → new ≡ old ++ e ∷ [] → ArePushesKept board most old k s pushes i →
+      AreStatesListed board most place new × IsEntryAt new place s k × ArePushesKept board most new k s pushes (i + 1)
   longer_on new e pushes i there count fits at_i longer kept =
-      subst (λ (all : List Entry). AreListed board most place all × IsAtPlace all place s k × AreKept board most all k s pushes (i + 1)) (sym longer) (
+      subst (λ (all : List Entry). AreStatesListed board most place all × IsEntryAt all place s k × ArePushesKept board most all k s pushes (i + 1)) (sym longer) (
         one_more e there count fits,
         (at_place.0, at_before old (e ∷ []) place at_place.0 at_place.1, at_place.2, at_place.3),
         λ j q lt at_j. elim (cases_eq j i) [
-          | inl same_i ↦ subst (IsKept board most (old ++ e ∷ []) k s) (same_Some p q (sym at_i ∙ (ap (λ (h : ℕ). slice_get pushes h) (sym same_i) ∙ at_j)))
+          | inl same_i ↦ subst (IsListedOrLost board most (old ++ e ∷ []) k s) (same_Some p q (sym at_i ∙ (ap (λ (h : ℕ). slice_get pushes h) (sym same_i) ∙ at_j)))
               (λ m total solvable. (length old, e, at_seam old e, there, omega (arith, count)))
           | inr ne ↦ (λ m total solvable. found_front old e (suc k) (after_push board s q) (kept j q (omega (arith, lt, ne)) at_j m total solvable))
         ],
@@ -174,26 +174,26 @@ module _ (board : Board) (most place : ℕ) (old : List Entry) (k : ℕ) (s : Sc
 
   -- after one more push of the state at the place
   pub pushed_on : (new : List Entry) (left n : ℕ) (after : Option Scene) (pushes : List Push) (i : ℕ) → k + suc left ≡ most → n ≡ suc k →
-      slice_get pushes i ≡ Some p → IsAfter board left s p after → ListsIf old new n after → AreKept board most old k s pushes i →
-      AreListed board most place new × IsAtPlace new place s k × AreKept board most new k s pushes (i + 1)
+      slice_get pushes i ≡ Some p → IsAfter board left s p after → ListsIf old new n after → ArePushesKept board most old k s pushes i →
+      AreStatesListed board most place new × IsEntryAt new place s k × ArePushesKept board most new k s pushes (i + 1)
   pushed_on new left n None pushes i sum count at_i after lists kept =
-      subst (λ (all : List Entry). AreListed board most place all × IsAtPlace all place s k × AreKept board most all k s pushes (i + 1)) (sym lists) (
+      subst (λ (all : List Entry). AreStatesListed board most place all × IsEntryAt all place s k × ArePushesKept board most all k s pushes (i + 1)) (sym lists) (
         listed,
         at_place,
         λ j q lt at_j. elim (cases_eq j i) [
-          | inl e ↦ subst (IsKept board most old k s) (same_Some p q (sym at_i ∙ (ap (λ (h : ℕ). slice_get pushes h) (sym e) ∙ at_j)))
+          | inl e ↦ subst (IsListedOrLost board most old k s) (same_Some p q (sym at_i ∙ (ap (λ (h : ℕ). slice_get pushes h) (sym e) ∙ at_j)))
               (λ m total solvable. absurd (after (subst (λ (h : ℕ). SolvableWithin board h (after_push board s p))
               (let g : m ≡ left = omega (arith, total, sum) in g) solvable)))
           | inr ne ↦ kept j q (omega (arith, lt, ne)) at_j
         ],
       )
   pushed_on new left n (Some t) pushes i sum count at_i (there, fits) (inl (unchanged, found)) kept =
-      subst (λ (all : List Entry). AreListed board most place all × IsAtPlace all place s k × AreKept board most all k s pushes (i + 1)) (sym unchanged) (
+      subst (λ (all : List Entry). AreStatesListed board most place all × IsEntryAt all place s k × ArePushesKept board most all k s pushes (i + 1)) (sym unchanged) (
         listed,
         at_place,
         λ j q lt at_j. elim (cases_eq j i) [
-          | inl e ↦ subst (IsKept board most old k s) (same_Some p q (sym at_i ∙ (ap (λ (h : ℕ). slice_get pushes h) (sym e) ∙ at_j)))
-              (λ m total solvable. subst (λ (h : ℕ). IsFound old h (after_push board s p)) count (subst (IsFound old n) there found))
+          | inl e ↦ subst (IsListedOrLost board most old k s) (same_Some p q (sym at_i ∙ (ap (λ (h : ℕ). slice_get pushes h) (sym e) ∙ at_j)))
+              (λ m total solvable. subst (λ (h : ℕ). IsFoundWithin old h (after_push board s p)) count (subst (IsFoundWithin old n) there found))
           | inr ne ↦ kept j q (omega (arith, lt, ne)) at_j
         ],
       )
@@ -204,8 +204,8 @@ module _ (board : Board) (most place : ℕ) (old : List Entry) (k : ℕ) (s : Sc
 
 -- all its pushes are kept
 pub expanded_on : (board : Board) (most place : ℕ) (all : List Entry) (k : ℕ) (s : Scene) (pushes : List Push) (count : ℕ) → ArePushes board s pushes →
-    length pushes ≤ count → AreListed board most place all → IsAtPlace all place s k → AreKept board most all k s pushes count →
-    AreListed board most (suc place) all
+    length pushes ≤ count → AreStatesListed board most place all → IsEntryAt all place s k → ArePushesKept board most all k s pushes count →
+    AreStatesListed board most (suc place) all
 expanded_on board most place all k s pushes count are over listed (x, at_x, same, many) kept = record {
   begun = listed.begun;
   each = listed.each;
@@ -217,17 +217,17 @@ expanded_on board most place all k s pushes count are over listed (x, at_x, same
   ];
 }
   where
-    kept_here : (p : Push) → CanPush board s p → IsKept board most all k s p
+    kept_here : (p : Push) → CanPush board s p → IsListedOrLost board most all k s p
     kept_here p can = let (j, at_j) = are.whole p can in
         kept j p (let lt = slice_get_within pushes j p at_j in omega (arith, lt, over)) at_j
 
     here : KeepsEach board most all x
-    here p can = subst (λ (t : Scene). IsKept board most all x.pushes t p) (sym same)
-        (subst (λ (n : ℕ). IsKept board most all n s p) (sym many) (kept_here p (subst (λ (t : Scene). CanPush board t p) same can)))
+    here p can = subst (λ (t : Scene). IsListedOrLost board most all x.pushes t p) (sym same)
+        (subst (λ (n : ℕ). IsListedOrLost board most all n s p) (sym many) (kept_here p (subst (λ (t : Scene). CanPush board t p) same can)))
 
 -- it has as many pushes as the solutions
-pub expanded_last : (board : Board) (most place : ℕ) (all : List Entry) (k : ℕ) (s : Scene) → most ≤ k → AreListed board most place all →
-    IsAtPlace all place s k → AreListed board most (suc place) all
+pub expanded_last : (board : Board) (most place : ℕ) (all : List Entry) (k : ℕ) (s : Scene) → most ≤ k → AreStatesListed board most place all →
+    IsEntryAt all place s k → AreStatesListed board most (suc place) all
 expanded_last board most place all k s enough listed (x, at_x, same, many) = record {
   begun = listed.begun;
   each = listed.each;
@@ -241,8 +241,8 @@ expanded_last board most place all k s enough listed (x, at_x, same, many) = rec
 }
 
 -- all are expanded
-pub all_expanded : (board : Board) (most place : ℕ) (all : List Entry) → length all ≤ place → AreListed board most place all →
-    AreListed board most (length all) all
+pub all_expanded : (board : Board) (most place : ℕ) (all : List Entry) → length all ≤ place → AreStatesListed board most place all →
+    AreStatesListed board most (length all) all
 all_expanded board most place all over listed = record {
   begun = listed.begun;
   each = listed.each;
@@ -252,7 +252,7 @@ all_expanded board most place all over listed = record {
 }
 
 -- more states are listed than the limit
-pub has_more_states : (board : Board) (most limit done : ℕ) (all : List Entry) → AreListed board most done all →
+pub has_more_states : (board : Board) (most limit done : ℕ) (all : List Entry) → AreStatesListed board most done all →
     AreDistinct (map (λ (x : Entry). x.position) all) → limit < length all → HasMoreStates board most limit
 has_more_states board most limit done all listed distinct more = record {
   states = map (λ (x : Entry). x.position) all;
@@ -304,7 +304,7 @@ exact_fits board s n p scene can norm fits = record {
 
 -- ---- what calls ask for
 
-pub fits_at : (board : Board) (most done place k : ℕ) (all : List Entry) (s : Scene) → AreListed board most done all → IsAtPlace all place s k →
+pub fits_at : (board : Board) (most done place k : ℕ) (all : List Entry) (s : Scene) → AreStatesListed board most done all → IsEntryAt all place s k →
     FitsLevel board s
 fits_at board most done place k all s listed (x, at_x, same, count) = subst (FitsLevel board) same (listed.each place x at_x).fits
 
@@ -324,7 +324,7 @@ lists_some old new s pushes label place most is entered = lists_by old new (reco
 -- the start is listed
 pub start_listed : (board : Board) (most : ℕ) (old new : List Entry) (s : Scene) (label : Label) (place : Option ℕ) → old ≡ [] → s ≡ start board →
     FitsLevel board (start board) → label ≡ record { pushes = 0; least = None; parent = None } → HasEntered old new (entry_of (s, label)) place →
-    AreListed board most 0 new
+    AreStatesListed board most 0 new
 start_listed board most old new s label place none first fits is entered =
     first_listed board most old new (record { position = s; pushes = 0; least = None; parent = None }) place none
     (subst (FitsLevel board) (sym first) fits) first refl

@@ -26,8 +26,8 @@ use Rattle.successors.specs.Expansion.{after_push}
 use Rattle.successors.proofs.lemmas.Lists.{set_here, set_there}
 use Rattle.shortest.specs.Shortest.{IsReachedBy}
 use Rattle.shortest.specs.inside.Resting.{EndsSolvedBy, IsAtMost}
-use Rattle.shortest.specs.inside.Listing.{AreAll, IsAtPlace, IsKept, IsReachedState, StatesView}
-use Rattle.shortest.specs.inside.Resting.{AreLeastBy, AreRests, IsLeastBy, IsOnward, IsRestOf, IsWay, LeadsOn, moves_of}
+use Rattle.shortest.specs.inside.Listing.{AreAllExpanded, IsEntryAt, IsListedOrLost, IsReachedState, StatesView}
+use Rattle.shortest.specs.inside.Resting.{AreLeastBy, AreRests, IsLeastBy, IsOnward, IsRestOf, IsWay, LeadsToEnd, moves_of}
 use Rattle.shortest.specs.inside.Walking.{IsWalkLength}
 use Rattle.shortest.specs.declared.ways.Way.{Way}
 
@@ -52,7 +52,7 @@ distinct_places all i j x y distinct at_i at_j same =
     let e = distinct i j y.position one two in
     same_Some x y (sym at_i ∙ (ap (λ (h : ℕ). slice_get all h) e ∙ at_j))
 
-module _ (v : StatesView) (rests : List (Option ℕ)) (k : ℕ) (s : Scene) (are : AreAll v) (onward : IsOnward v rests k s) where
+module _ (v : StatesView) (rests : List (Option ℕ)) (k : ℕ) (s : Scene) (are : AreAllExpanded v) (onward : IsOnward v rests k s) where
   same : onward.at_place.0.position ≡ s
   same = onward.at_place.2
 
@@ -62,9 +62,9 @@ module _ (v : StatesView) (rests : List (Option ℕ)) (k : ℕ) (s : Scene) (are
   pub onward_fits : FitsLevel v.board s
   onward_fits = subst (FitsLevel v.board) same listed.fits
 
-  kept : (p : Push) → CanPush v.board s p → IsKept v.board v.most v.entries k s p
-  kept p can = subst (λ (t : Scene). IsKept v.board v.most v.entries k t p) same
-      (subst (λ (n : ℕ). IsKept v.board v.most v.entries n onward.at_place.0.position p) onward.at_place.3
+  kept : (p : Push) → CanPush v.board s p → IsListedOrLost v.board v.most v.entries k s p
+  kept p can = subst (λ (t : Scene). IsListedOrLost v.board v.most v.entries k t p) same
+      (subst (λ (n : ℕ). IsListedOrLost v.board v.most v.entries n onward.at_place.0.position p) onward.at_place.3
       (are.listed.expanded onward.place onward.at_place.0 (slice_get_within v.entries onward.place onward.at_place.0 onward.at_place.1)
       onward.at_place.1 p (subst (λ (t : Scene). CanPush v.board t p) (sym same) can)))
 
@@ -86,7 +86,7 @@ module _ (v : StatesView) (rests : List (Option ℕ)) (k : ℕ) (s : Scene) (are
         omega (arith, le, c, count))
   ]
 
-  pub rest_there : (p : Push) (place rest m : ℕ) → k + suc m ≡ v.most → (leads : LeadsOn v.board v.entries rests k s p place rest) →
+  pub rest_there : (p : Push) (place rest m : ℕ) → k + suc m ≡ v.most → (leads : LeadsToEnd v.board v.entries rests k s p place rest) →
       IsRestOf v.board m (after_push v.board s p) (Some rest)
   rest_there p place rest m sum leads = subst (λ (t : Scene). IsRestOf v.board m t (Some rest)) leads.there
       (onward.known.each place m leads.entry (Some rest) (behind place leads.entry leads.at leads.count) leads.at leads.rest_is
@@ -205,7 +205,7 @@ play_of board m s p walk rest scene can shortest (ds, ps, t, play, solved, few, 
     )
 
 -- the best of all ways is the fewest moves from the state
-pub best_is : (v : StatesView) (rests : List (Option ℕ)) (k m : ℕ) (s : Scene) (pushes : List Push) (count : ℕ) (best : Option Way) → (are : AreAll v) →
+pub best_is : (v : StatesView) (rests : List (Option ℕ)) (k m : ℕ) (s : Scene) (pushes : List Push) (count : ℕ) (best : Option Way) → (are : AreAllExpanded v) →
     (onward : IsOnward v rests k s) → k + suc m ≡ v.most → ArePushes v.board s pushes → length pushes ≤ count →
     ((way : Way) → best ≡ Some way → IsWay v.board v.entries rests k s way) → AreLeastBy v.board m s pushes count (moves_of best) →
     IsRestOf v.board (suc m) s (moves_of best)
@@ -274,12 +274,12 @@ rest_unsolved board s unsolved = record {
     none ds (p ∷ ps) t play end few = omega (arith, few)
 
 -- the state at a place is one
-pub one_at : (all : List Entry) (place k n : ℕ) (s t : Scene) → IsAtPlace all place s k → IsAtPlace all place t n → (s ≡ t) × (k ≡ n)
+pub one_at : (all : List Entry) (place k n : ℕ) (s t : Scene) → IsEntryAt all place s k → IsEntryAt all place t n → (s ≡ t) × (k ≡ n)
 one_at all place k n s t (x, at_x, same, count) (y, at_y, so, many) =
     let e = same_Some x y (sym at_x ∙ at_y) in
     (sym same ∙ (ap (λ (w : Entry). w.position) e ∙ so), sym count ∙ (ap (λ (w : Entry). w.pushes) e ∙ many))
 
-pub rest_same : (board : Board) (all : List Entry) (most place k n : ℕ) (s t : Scene) (rest : Option ℕ) → IsAtPlace all place s k → IsAtPlace all place t n →
+pub rest_same : (board : Board) (all : List Entry) (most place k n : ℕ) (s t : Scene) (rest : Option ℕ) → IsEntryAt all place s k → IsEntryAt all place t n →
     ((m : ℕ) → k + m ≡ most → IsRestOf board m s rest) → (m : ℕ) → n + m ≡ most → IsRestOf board m t rest
 rest_same board all most place k n s t rest here there is m sum =
     let (e, f) = one_at all place k n s t here there in
@@ -289,7 +289,7 @@ rest_same board all most place k n s t rest here there is m sum =
 
 -- one more place is written
 pub rests_more : (board : Board) (most place : ℕ) (all : List Entry) (old : List (Option ℕ)) (rest : Option ℕ) → place < length all →
-    AreRests board most (suc place) all old → ((k m : ℕ) (s : Scene) → IsAtPlace all place s k → k + m ≡ most → IsRestOf board m s rest) →
+    AreRests board most (suc place) all old → ((k m : ℕ) (s : Scene) → IsEntryAt all place s k → k + m ≡ most → IsRestOf board m s rest) →
     AreRests board most place all (set old place rest)
 rests_more board most place all old rest lt rests is = record {
   many = length-set old place rest ∙ rests.many;
@@ -366,8 +366,8 @@ left (suc k) zero le = absurd (omega (arith, le))
 left (suc k) (suc most) le = let (m, sum) = left k most (omega (arith, le)) in (m, omega (arith, sum))
 
 -- the moves after a push fit 64 bits, with a walk and the push
-pub rest_small : (v : StatesView) (rests : List (Option ℕ)) (k : ℕ) (s : Scene) → (are : AreAll v) → (onward : IsOnward v rests k s) →
-    (p : Push) (place rest : ℕ) → LeadsOn v.board v.entries rests k s p place rest → rest + 8589934592 ≤ 18446744073709551616
+pub rest_small : (v : StatesView) (rests : List (Option ℕ)) (k : ℕ) (s : Scene) → (are : AreAllExpanded v) → (onward : IsOnward v rests k s) →
+    (p : Push) (place rest : ℕ) → LeadsToEnd v.board v.entries rests k s p place rest → rest + 8589934592 ≤ 18446744073709551616
 rest_small v rests k s are onward p place rest leads =
     by v.most are.range onward.fewer (λ m sum. (rest_there v rests k s are onward p place rest m sum leads).small rest refl)
   where

@@ -15,7 +15,7 @@ use Rattle.grid.proofs.lemmas.Steps.{inside_grid, walk_boxes, walk_player}
 use Rattle.area.specs.Area.{Area, at}
 use Rattle.area.specs.LeastWalks.{IsWalk}
 use Rattle.shortest.specs.declared.walks.TheConstants.{UNREACHED}
-use Rattle.shortest.specs.inside.Walking.{AreWalkLengths, IsInRound, IsLook, IsNear, IsRound, unreached}
+use Rattle.shortest.specs.inside.Walking.{AreWalkLengths, IsInRound, IsWalkLook, IsNear, IsWalkRound, unreached}
 
 -- ---- how many squares are not reached
 
@@ -49,8 +49,8 @@ reached_one (n ∷ ns) (suc q) v lt is ne =
 
 -- all squares are unreached except the player's
 pub round_begun : (board : Board) (s : Scene) (old marks : List ℕ) → IsScene board s → length old ≡ length board.cells → length board.cells ≤ MAX_SQUARES →
-    old ≡ replicate (length old) UNREACHED → marks ≡ set old s.player 0 → IsRound board s 0 marks
-round_begun board s old marks scene room small all is = subst (IsRound board s 0) (sym is) (record {
+    old ≡ replicate (length old) UNREACHED → marks ≡ set old s.player 0 → IsWalkRound board s 0 marks
+round_begun board s old marks scene room small all is = subst (IsWalkRound board s 0) (sym is) (record {
   lengths = record {
     room = length-set old s.player 0 ∙ room;
     small = (let e = length-set old s.player 0 in omega (arith, e, room, small));
@@ -78,7 +78,7 @@ round_begun board s old marks scene room small all is = subst (IsRound board s 0
 -- ---- in a round
 
 module _ (board : Board) (s : Scene) (r : ℕ) (marks : List ℕ) where
-  pub round_in : IsRound board s r marks → IsInRound board s r 0 0 false marks
+  pub round_in : IsWalkRound board s r marks → IsInRound board s r 0 0 false marks
   round_in round = record {
     lengths = record {
       room = round.lengths.room;
@@ -133,7 +133,7 @@ module _ (board : Board) (s : Scene) (r : ℕ) (marks : List ℕ) where
       earlier q d (inr (e, lt)) = absurd (omega (arith, lt))
 
   -- a round that reached new squares is whole
-  pub round_more : IsInRound board s r (length marks) 0 true marks → IsRound board s (suc r) marks
+  pub round_more : IsInRound board s r (length marks) 0 true marks → IsWalkRound board s (suc r) marks
   round_more u = record {
     lengths = record {
       room = u.lengths.room;
@@ -278,7 +278,7 @@ module _ (board : Board) (s : Scene) (r i k : ℕ) (any : Bool) (marks : List �
 
   -- after a look at the next square in a direction
   pub looked : (new : List ℕ) (b : Bool) → IsInRound board s r i k any marks → i < length marks → get_or marks i 0 ≡ r → dir_number d ≡ k → next board i d ≡ n →
-      IsLook board s n (suc r) marks new b → IsInRound board s r i (suc k) (any || b) new × (get_or new i 0 ≡ r) × (length new ≡ length marks)
+      IsWalkLook board s n (suc r) marks new b → IsInRound board s r i (suc k) (any || b) new × (get_or new i 0 ≡ r) × (length new ≡ length marks)
   looked new false u lt away at is (same, reached) =
       subst (λ (ms : List ℕ). IsInRound board s r i (suc k) (any || false) ms × (get_or ms i 0 ≡ r) × (length ms ≡ length marks)) (sym same)
       (stayed u away at is reached, away, refl)
@@ -344,7 +344,7 @@ round_whole board s r marks scene u q (ds, walked) = record {
 
 -- a round ends with new squares, or with the lengths of all walks
 pub round_ended : (board : Board) (s : Scene) (r n : ℕ) (any : Bool) (marks : List ℕ) → IsScene board s → n ≡ length marks → IsInRound board s r n 0 any marks →
-    (any ≡ true → IsRound board s (suc r) marks) × (any ≡ false → AreWalkLengths board s marks)
+    (any ≡ true → IsWalkRound board s (suc r) marks) × (any ≡ false → AreWalkLengths board s marks)
 round_ended board s r n any marks scene e u = (
   λ yes. round_more board s r marks (subst (λ (b : Bool). IsInRound board s r (length marks) 0 b marks) yes at_end),
   λ no. round_whole board s r marks scene (subst (λ (b : Bool). IsInRound board s r (length marks) 0 b marks) no at_end),

@@ -8,7 +8,7 @@ ghost use Rattle.store.specs.FoundView.{FitsGrid};
 ghost use Rattle.store.specs.Visited.{Entry};
 ghost use Rattle.successors.specs.Capping.{capped};
 ghost use Rattle.successors.specs.Expanding.{HasPushesOf};
-ghost use Rattle.shortest.specs.inside.Listing.{EndsListing, IsAfter, IsAtPlace, IsStateList, ListsIf};
+ghost use Rattle.shortest.specs.inside.Listing.{EndsListing, IsAfter, IsEntryAt, IsStateList, ListsIf};
 
 use crate::bounds::Bounds;
 use crate::states::{Reached, reached_at};
@@ -123,7 +123,7 @@ fn list_after(
     workspace: &mut Workspace<'_>,
 ) -> Result<(), AllocError>
     requires listing { IsStateList bounds.now.board bounds.now.most place listed.old }
-    requires at_place { IsAtPlace listed.old.entries place from.now.state from.now.pushes }
+    requires at_place { IsEntryAt listed.old.entries place from.now.state from.now.pushes }
     requires fewer { from.now.pushes < bounds.now.most }
     requires board { workspace.old.expander.task.board ≡ bounds.now.board }
     ensures listing { OnOk result (IsStateList bounds.now.board bounds.now.most (suc place) listed.new) }

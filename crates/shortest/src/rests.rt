@@ -1,7 +1,7 @@
 //! The fewest moves from each listed state to the end.
 ghost use Rattle.std.specs.Prelude.{◌≡◌, ◌+◌, ◌<◌, ℕ, suc, IfOk, length};
 ghost use Rattle.grid.specs.Board.{Scene};
-ghost use Rattle.shortest.specs.inside.Listing.{IsAtPlace};
+ghost use Rattle.shortest.specs.inside.Listing.{IsEntryAt};
 ghost use Rattle.shortest.specs.inside.Resting.{AreRests, IsRestOf};
 
 use crate::states::States;
@@ -51,7 +51,7 @@ fn rest_at(
     requires rests { AreRests states.now.board states.now.most (suc place) states.now.entries rests.now }
     requires size { tools.old.scratch.size ≡ length states.now.board.cells }
     requires room { length tools.old.walks.lengths.items ≡ length states.now.board.cells }
-    ensures rest { (k m : ℕ) (s : Scene) → IsAtPlace states.now.entries place s k → k + m ≡ states.now.most →
+    ensures rest { (k m : ℕ) (s : Scene) → IsEntryAt states.now.entries place s k → k + m ≡ states.now.most →
         IsRestOf states.now.board m s result }
     ensures size { tools.new.scratch.size ≡ length states.now.board.cells }
     ensures room { length tools.new.walks.lengths.items ≡ length states.now.board.cells }

@@ -3,7 +3,7 @@ ghost use Rattle.std.specs.Prelude.{◌≡◌, ◌<◌, length};
 ghost use Rattle.grid.specs.States.{FitsLevel};
 ghost use Rattle.prover.specs.Fewest.{NoneHasFewer};
 ghost use Rattle.store.specs.Places.{IsPlaceOf};
-ghost use Rattle.shortest.specs.inside.Listing.{AreAll, IsAtPlace, IsStateList};
+ghost use Rattle.shortest.specs.inside.Listing.{AreAllExpanded, IsEntryAt, IsStateList};
 
 use grid::{Level, Position};
 use std::marker::Model;
@@ -28,13 +28,14 @@ pub(crate) struct States<'a> {
 impl<'a> Model for States<'a> {
     ghost use Rattle.std.specs.Prelude.{◌≡◌, length};
     ghost use Rattle.grid.specs.Lawful.{box_count};
-    ghost use Rattle.shortest.specs.inside.Listing.{AreAll, StatesView};
+    ghost use Rattle.shortest.specs.inside.Listing.{AreAllExpanded, StatesView};
 
     ghost Value = { StatesView };
 
     ghost view = { λ a. record { board = a.level.now; most = a.most; entries = a.listed.now.entries } };
 
-    ghost invariant = { λ a. AreAll (record { board = a.level.now; most = a.most; entries = a.listed.now.entries }) ×
+    ghost invariant = { λ a.
+        AreAllExpanded (record { board = a.level.now; most = a.most; entries = a.listed.now.entries }) ×
         (a.listed.now.boxes ≡ box_count a.level.now) × (a.listed.now.squares ≡ length a.level.now.cells) };
 }
 
@@ -77,7 +78,7 @@ impl<'a> States<'a> {
     /// The state at a place.
     pub(crate) fn at(&self, place: usize) -> Reached
         requires { place < length self.now.entries }
-        ensures { IsAtPlace self.now.entries place result.state result.pushes }
+        ensures { IsEntryAt self.now.entries place result.state result.pushes }
     {
         reached_at(self.listed, place)
     }
@@ -92,7 +93,7 @@ impl<'a> States<'a> {
 
     /// States what holds of the list. It does nothing and is there for proofs.
     pub(crate) fn tell(&self)
-        ensures { AreAll self.now }
+        ensures { AreAllExpanded self.now }
     {
         let _ = &self.listed;
     }
@@ -101,7 +102,7 @@ impl<'a> States<'a> {
 /// The state at a place of a list.
 pub(crate) fn reached_at(listed: &Visited, place: usize) -> Reached
     requires { place < length listed.now.entries }
-    ensures { IsAtPlace listed.now.entries place result.state result.pushes }
+    ensures { IsEntryAt listed.now.entries place result.state result.pushes }
 {
     Reached {
         state: listed.position(place),

@@ -2,7 +2,8 @@
 ghost use Rattle.std.specs.Prelude.{◌≡◌, ◌<◌, suc, false, IfOk, IsFalse, IsTrue, length};
 ghost use Rattle.grid.specs.States.{IsScene};
 ghost use Rattle.area.specs.Area.{Area};
-ghost use Rattle.shortest.specs.inside.Walking.{AreWalkLengths, IsInRound, IsLook, IsReady, IsRound, IsWalkLength};
+ghost use Rattle.shortest.specs.inside.Walking.{AreWalkLengths, HasLengths, IsInRound, IsWalkLength, IsWalkLook};
+ghost use Rattle.shortest.specs.inside.Walking.{IsWalkRound};
 
 use grid::{Dir, Level, Position, Square};
 use std::alloc::{AllocError, Global};
@@ -42,9 +43,9 @@ impl Walks {
     /// measures them all. The later ones are for the same state.
     pub(crate) fn length_to(&mut self, level: &Level, state: &Position, square: Square) -> u32
         requires scene { IsScene level.now state.now }
-        requires ready { IsReady level.now state.now self.old }
+        requires ready { HasLengths level.now state.now self.old }
         requires reached { Area level.now state.now square }
-        ensures ready { IsReady level.now state.now self.new }
+        ensures ready { HasLengths level.now state.now self.new }
         ensures length { IsWalkLength level.now state.now square result }
     {
         self.measure_once(level, state);
@@ -54,7 +55,7 @@ impl Walks {
     // Measures the lengths, unless they are measured.
     fn measure_once(&mut self, level: &Level, state: &Position)
         requires scene { IsScene level.now state.now }
-        requires ready { IsReady level.now state.now self.old }
+        requires ready { HasLengths level.now state.now self.old }
         ensures measured { AreWalkLengths level.now state.now self.new.lengths.items }
         ensures room { length self.new.lengths.items ≡ length level.now.cells }
     {
@@ -85,8 +86,8 @@ fn measure(level: &Level, state: &Position, lengths: &mut [u32])
 // Reaches the squares beside those that are `steps` steps away. Returns whether there are new ones.
 fn go_round(level: &Level, state: &Position, steps: u32, lengths: &mut [u32]) -> bool
     requires scene { IsScene level.now state.now }
-    requires round { IsRound level.now state.now steps lengths.old }
-    ensures more { IsTrue result → IsRound level.now state.now (suc steps) lengths.new }
+    requires round { IsWalkRound level.now state.now steps lengths.old }
+    ensures more { IsTrue result → IsWalkRound level.now state.now (suc steps) lengths.new }
     ensures whole { IsFalse result → AreWalkLengths level.now state.now lengths.new }
     ensures room { length lengths.new ≡ length level.now.cells }
 {
@@ -126,7 +127,7 @@ fn look_round(
 // Gives a square its steps, if it is free and not reached yet. Returns whether it is new.
 fn look(level: &Level, state: &Position, square: Square, steps: u32, lengths: &mut [u32]) -> bool
     requires room { length lengths.old ≡ length level.now.cells }
-    ensures { IsLook level.now state.now square steps lengths.old lengths.new result }
+    ensures { IsWalkLook level.now state.now square steps lengths.old lengths.new result }
 {
     if level.is_wall(square) {
         return false;

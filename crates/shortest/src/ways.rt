@@ -6,9 +6,9 @@ ghost use Rattle.area.specs.Pushes.{CanPush};
 ghost use Rattle.prices.specs.Solving.{SolvableWithin};
 ghost use Rattle.successors.specs.Expansion.{after_push};
 ghost use Rattle.shortest.specs.inside.Resting.{IsAtMost};
-ghost use Rattle.shortest.specs.inside.Listing.{AreAll};
-ghost use Rattle.shortest.specs.inside.Resting.{IsLeastBy, IsOnward, IsRestOf, IsWay, LeadsOn, moves_of};
-ghost use Rattle.shortest.specs.inside.Walking.{IsReady, IsWalkLength};
+ghost use Rattle.shortest.specs.inside.Listing.{AreAllExpanded};
+ghost use Rattle.shortest.specs.inside.Resting.{IsLeastBy, IsOnward, IsRestOf, IsWay, LeadsToEnd, moves_of};
+ghost use Rattle.shortest.specs.inside.Walking.{HasLengths, IsWalkLength};
 
 use crate::states::{Reached, States};
 use crate::walks::Walks;
@@ -86,8 +86,8 @@ fn way_by(
 ) -> Option<Way>
     requires onward { IsOnward states.now rests.now from.now.pushes from.now.state }
     requires possible { CanPush states.now.board from.now.state push }
-    requires ready { IsReady states.now.board from.now.state walks.old }
-    ensures ready { IsReady states.now.board from.now.state walks.new }
+    requires ready { HasLengths states.now.board from.now.state walks.old }
+    ensures ready { HasLengths states.now.board from.now.state walks.new }
     ensures way { IfSome result (λ way. IsWay states.now.board states.now.entries rests.now
         from.now.pushes from.now.state way) }
     ensures least { (m : ℕ) → from.now.pushes + suc m ≡ states.now.most →
@@ -118,7 +118,7 @@ fn rest_after(
 ) -> Option<(usize, u64)>
     requires onward { IsOnward states.now rests.now from.now.pushes from.now.state }
     requires possible { CanPush states.now.board from.now.state push }
-    ensures leads { IfSome result (λ found. LeadsOn states.now.board states.now.entries rests.now from.now.pushes
+    ensures leads { IfSome result (λ found. LeadsToEnd states.now.board states.now.entries rests.now from.now.pushes
         from.now.state push found.0 found.1) }
     ensures none { IfNone result ((m : ℕ) → from.now.pushes + suc m ≡ states.now.most →
         ¬ (SolvableWithin states.now.board m (after_push states.now.board from.now.state push))) }

@@ -22,7 +22,7 @@ use Rattle.sokopar.specs.declared.fault.RunFault.TheVariants.{Read, Write, TooLo
 use Rattle.sokopar.specs.declared.finding.Finding.{Finding}
 use Rattle.sokopar.specs.declared.totals.Totals.{Totals}
 use Rattle.sokopar.specs.inside.Sending.{SendsByLine, SendsLevel, SendsLevels, SendsLine}
-use Rattle.sokopar.specs.inside.Totals.{AreFew, counted, status_of, totals_of, line_of_totals}
+use Rattle.sokopar.specs.inside.Totals.{AreFewLevels, counted, status_of, totals_of, line_of_totals}
 use Rattle.xsb.proofs.lemmas.Cutting.{rest_of}
 use Rattle.sokopar.proofs.Listings.{HasListed, good-first, good-on, listed-all, listed-more}
 use Rattle.sokopar.proofs.Writing.{wrote_more, wrote_none}
@@ -56,7 +56,7 @@ totals-last reported n finding =
     let unjudged = sym (count-last (λ (r : Reported). is_unjudged r.finding) reported one) in
     λ i. record { levels = long i; optimal = optimal i; unsolved = unsolved i; undecided = undecided i; unjudged = unjudged i }
 
-few-of : (reported : List Reported) → length reported ≤ MAX_FILE → AreFew (totals_of reported)
+few-of : (reported : List Reported) → length reported ≤ MAX_FILE → AreFewLevels (totals_of reported)
 few-of reported few =
     let optimal = count_by-le-length (λ (r : Reported). is_optimal r.finding) reported in
     let unsolved = count_by-le-length (λ (r : Reported). is_unsolved r.finding) reported in
@@ -101,10 +101,10 @@ reported_none wanted cap limit from to bytes left totals seen read few is = reco
 
 -- the totals are few
 pub reported_few : (wanted : Bool) (cap : Option ℕ) (limit from to : ℕ) (bytes : List ℕ) (left : Collection) (number : ℕ) (totals : Totals) (old new : Seen) →
-    HasReported wanted cap limit from to bytes left number totals old new → AreFew totals
+    HasReported wanted cap limit from to bytes left number totals old new → AreFewLevels totals
 reported_few wanted cap limit from to bytes left number totals old new is =
     let counted_are = is.counted_are in let few = is.few in let room = is.room in
-    subst (λ (t : Totals). AreFew t) (sym is.totals_are) (few-of is.reported (omega (arith, counted_are, few, room)))
+    subst (λ (t : Totals). AreFewLevels t) (sym is.totals_are) (few-of is.reported (omega (arith, counted_are, few, room)))
 
 -- a level more, whose number is not in the range
 pub reported_outside : {wanted : Bool} {cap : Option ℕ} {limit from to : ℕ} {bytes : List ℕ} {first : Collection} {number : ℕ}

@@ -17,7 +17,7 @@ use Rattle.xsb.specs.declared.limits.TheConstants.{MAX_FILE}
 use Rattle.xsb.specs.declared.reader.Collection.{Collection}
 use Rattle.xsb.specs.inside.Progress.{HasRead, GivesNext, lines_left}
 use Rattle.sokopar.specs.Entries.{listed_of}
-use Rattle.sokopar.specs.Listing.{Listed, IsListed, IsListing, IsLevelOf, level_at}
+use Rattle.sokopar.specs.Listing.{Listed, IsListed, IsLevelListing, IsLevelOf, level_at}
 use Rattle.sokopar.specs.inside.Parts.{is_good}
 use Rattle.sokopar.specs.Report.{Report, ReportsOnText, IsCheckReport, line, check_line, check_lines, good_count}
 
@@ -45,7 +45,7 @@ listed-more {bytes} {first} {listing} last entry is next = record {
 
 -- no board more
 pub listed-all : {bytes : List ℕ} {first : Collection} {listing : List Listed} (last : Collection) (is : HasListed bytes first listing)
-    → GivesNext bytes is.founds last None → IsListing bytes listing
+    → GivesNext bytes is.founds last None → IsLevelListing bytes listing
 listed-all {bytes} {first} {listing} last is all = (is.founds, all, is.each)
 
 -- how far a collection was checked: the lines of its boards so far, their number, and how many are lawful
@@ -219,21 +219,21 @@ text_read Has old new n level board text report is reads has =
 -- the level that was chosen is that of the number
 pub at_number : {E : Type 0} (bytes : List ℕ) (n : ℕ) (chosen : Option (Result Board LevelFault)) (P : Option (Result Board LevelFault) → Report →
     Type 0) (result : Result Report E)
-    → (listing : List Listed) × IsListing bytes listing × (chosen ≡ level_at listing n) → IfOk result (λ r. P chosen r)
-    → IfOk result (λ r. (listing : List Listed) × IsListing bytes listing × P (level_at listing n) r)
+    → (listing : List Listed) × IsLevelListing bytes listing × (chosen ≡ level_at listing n) → IfOk result (λ r. P chosen r)
+    → IfOk result (λ r. (listing : List Listed) × IsLevelListing bytes listing × P (level_at listing n) r)
 at_number bytes n chosen P (Ok r) has is = (has.0, has.1, subst (λ at. P at r) has.2 is)
 at_number bytes n chosen P (Err e) has is = tt
 
 pub text_at : {E : Type 0} (Has : Board → List ℕ → Report → Type 0) (bytes : List ℕ) (n : ℕ) (chosen : Option (Result Board LevelFault)) (old new : Seen)
-    (result : Result Report E) → (listing : List Listed) × IsListing bytes listing × (chosen ≡ level_at listing n)
+    (result : Result Report E) → (listing : List Listed) × IsLevelListing bytes listing × (chosen ≡ level_at listing n)
     → IfOk result (λ r. (text : Option (List ℕ)) × ReadsIfSome old new text × ReportsOnText Has n chosen text r)
     → IfOk result (λ r. (text : Option (List ℕ)) × ReadsIfSome old new text ×
-    ((listing : List Listed) × IsListing bytes listing × ReportsOnText Has n (level_at listing n) text r))
+    ((listing : List Listed) × IsLevelListing bytes listing × ReportsOnText Has n (level_at listing n) text r))
 text_at Has bytes n chosen old new (Ok r) has is = (is.0, is.1, (has.0, has.1, subst (λ at. ReportsOnText Has n at is.0 r) has.2 is.2))
 text_at Has bytes n chosen old new (Err e) has is = tt
 
 pub stopped_at : (bytes : List ℕ) (n : ℕ) (chosen : Option (Result Board LevelFault)) (old new : Seen) (result : Result Report RunFault)
-    → (listing : List Listed) × IsListing bytes listing × (chosen ≡ level_at listing n)
+    → (listing : List Listed) × IsLevelListing bytes listing × (chosen ≡ level_at listing n)
     → IfErr result (λ f. ((f ≡ OutOfMemory) × (new ≡ old)) ⊎ ((board : Board) × (chosen ≡ Some (Ok board)) × Stops old new f))
     → IfErr result (λ f. ((f ≡ OutOfMemory) × (new ≡ old)) ⊎ ((board : Board) × IsLevelOf bytes n board × Stops old new f))
 stopped_at bytes n chosen old new (Ok r) has is = tt

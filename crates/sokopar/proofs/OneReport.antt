@@ -19,7 +19,7 @@ use Rattle.solo.specs.declared.answer.Answer.{Answer}
 use Rattle.xsb.specs.Collection.{Found, IsCollection, IsJudged}
 use Rattle.xsb.specs.Written.{rows_from}
 use Rattle.sokopar.specs.DeadMap.{IsMark, wall, goal, dead, other, AreMarks, IsDeadReport, marked_row}
-use Rattle.sokopar.specs.Listing.{Listed, IsListed, IsListing, level_at}
+use Rattle.sokopar.specs.Listing.{Listed, IsListed, IsLevelListing, level_at}
 use Rattle.sokopar.specs.OneAtMost.{IsOneAtMost}
 use Rattle.sokopar.specs.OneReport.{IsOnlyReport}
 use Rattle.sokopar.specs.Report.{Report, IsReplayOf, IsCheckReport, IsShowReport, IsReplayReport, ReportsOnText, ReportsOn, IsShown, check_report}
@@ -76,7 +76,7 @@ abbrev pub AreOneCollection : Type 0
 AreOneCollection = (bytes : List ℕ) (founds others : List Found) → IsCollection bytes founds → IsCollection bytes others → founds ≡ others
 
 -- the same bytes have one listing
-pub one_listing : AreOneCollection → (bytes : List ℕ) (xs ys : List Listed) → IsListing bytes xs → IsListing bytes ys → ys ≡ xs
+pub one_listing : AreOneCollection → (bytes : List ℕ) (xs ys : List Listed) → IsLevelListing bytes xs → IsLevelListing bytes ys → ys ≡ xs
 one_listing law bytes xs ys (fs, read, one) (gs, also, two) =
     let P : List Found → Type 0 = λ hs. AllZip IsListed ys hs in
     same_listings fs xs ys one (subst P (law bytes gs fs also read) two)

@@ -10,7 +10,7 @@ use Rattle.solo.specs.declared.answer.Answer.{Answer}
 use Rattle.solo.specs.declared.answer.Answer.TheVariants as answer
 use Rattle.successors.specs.Capping.{capped}
 use Rattle.solo.specs.Answers.{IsAnswer}
-use Rattle.sokopar.specs.Listing.{Listed, IsListing, level_at}
+use Rattle.sokopar.specs.Listing.{Listed, IsLevelListing, level_at}
 use Rattle.sokopar.specs.Report.{Report, IsReplayOf, IsReplayReport, ReportsOnText, line, verdict_report}
 use Rattle.sokopar.specs.Solving.{IsSolveReport, answer_report}
 use Rattle.sokopar.specs.inside.Parts.{SolvesOn}
@@ -28,7 +28,7 @@ pub record Laws : Type 0 where
 -- a lawful level of a file, by one of its listings
 record HasLevel (bytes : List ℕ) (n : ℕ) (board : Board) : Type 0 where
   listing : List Listed
-  lists : IsListing bytes listing
+  lists : IsLevelListing bytes listing
   is : level_at listing n ≡ Some (Ok board)
 
 -- a solution that is told replays as told
@@ -59,7 +59,7 @@ told_replays laws cap limit n bytes board has report (answer.NoneWithin position
 told_replays laws cap limit n bytes board has report answer.Limit is told good =
     let bad : 4 ≡ 0 = sym (ap (λ (r : Report). r.status) told) ∙ good in absurd (omega (arith, bad))
 
-at_level : Laws → (cap : Option ℕ) (limit n : ℕ) (bytes : List ℕ) (listing : List Listed) → IsListing bytes listing →
+at_level : Laws → (cap : Option ℕ) (limit n : ℕ) (bytes : List ℕ) (listing : List Listed) → IsLevelListing bytes listing →
     (report : Report) (level : Option (Result Board LevelFault))
     → level_at listing n ≡ level → SolvesOn cap limit n level report → report.status ≡ 0 → ReplaysAsTold n bytes report
 at_level laws cap limit n bytes listing lists report None is told good =

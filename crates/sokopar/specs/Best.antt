@@ -6,7 +6,7 @@ use Rattle.grid.specs.declared.square.Push.{Push}
 use Rattle.grid.specs.Plays.{IsSolution}
 use Rattle.lurd.specs.Text.{bytes_of}
 use Rattle.prover.specs.Fewest.{NoneHasFewer, HasMore}
-use Rattle.sokopar.specs.Listing.{Listed, IsListing, level_at}
+use Rattle.sokopar.specs.Listing.{Listed, IsLevelListing, level_at}
 use Rattle.sokopar.specs.Moves.{IsBestSolution, best_words, claim_status}
 use Rattle.sokopar.specs.Report.{Report, ReportsOn, IsSearchOf, cap_words, line, one_line}
 use Rattle.sokopar.specs.declared.outcome.BestOutcome.{BestOutcome}
@@ -66,5 +66,5 @@ IsBest wanted cap limit board report =
 -- not, under a cap of pushes and a limit of positions
 abbrev pub IsBestReport : Bool → Option ℕ → ℕ → ℕ → List ℕ → Report → Type 0
 IsBestReport wanted cap limit n bytes report =
-    (listing : List Listed) × IsListing bytes listing ×
+    (listing : List Listed) × IsLevelListing bytes listing ×
     ReportsOn (IsSearchOf (IsBest wanted cap limit)) n (level_at listing n) report

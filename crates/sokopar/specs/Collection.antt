@@ -10,7 +10,7 @@ use Rattle.grid.specs.declared.limits.TheConstants.{MAX_BOXES}
 use Rattle.lurd.specs.Text.{bytes_of}
 use Rattle.xsb.specs.Collection.{Found, IsCollection}
 use Rattle.sokopar.specs.Best.{Finds, outcome_words}
-use Rattle.sokopar.specs.Listing.{Listed, IsListed, IsListing}
+use Rattle.sokopar.specs.Listing.{Listed, IsListed, IsLevelListing}
 use Rattle.sokopar.specs.Moves.{is_open}
 use Rattle.sokopar.specs.Report.{Report, fault_words, line}
 use Rattle.sokopar.specs.declared.finding.Finding.{Finding}
@@ -129,7 +129,7 @@ collection_report cap limit reported = record {
 -- of pushes and a limit of positions
 abbrev pub IsCollectionReport : Bool → Option ℕ → ℕ → ℕ → ℕ → List ℕ → Report → Type 0
 IsCollectionReport wanted cap limit from to bytes report =
-    (listing : List Listed) × IsListing bytes listing × (reported : List Reported) ×
+    (listing : List Listed) × IsLevelListing bytes listing × (reported : List Reported) ×
     AreReported wanted cap limit from to listing reported × (report ≡ collection_report cap limit reported)
 
 -- the levels are the first ones of the collection of these bytes

@@ -12,8 +12,8 @@ pub record Seen : Type 0 where
   pub known : Option (List ℕ)
 
 -- an end that did nothing yet
-abbrev pub untouched : Option (List ℕ) → Seen
-untouched known = record { acts = []; known = known }
+abbrev pub untouched_end : Option (List ℕ) → Seen
+untouched_end known = record { acts = []; known = known }
 
 -- acts that each moved some bytes, after those before, and all the bytes that they moved
 pub data Pass (before : List Act) : List Act → List ℕ → Type 0 where

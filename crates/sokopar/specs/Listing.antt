@@ -18,8 +18,8 @@ pub record IsListed (listed : Listed) (found : Found) : Type 0 where
   pub board : IsJudged found.board listed.board
 
 -- the bytes are a collection of these levels, in order
-abbrev pub IsListing : List ℕ → List Listed → Type 0
-IsListing bytes listing = (founds : List Found) × IsCollection bytes founds × AllZip IsListed listing founds
+abbrev pub IsLevelListing : List ℕ → List Listed → Type 0
+IsLevelListing bytes listing = (founds : List Found) × IsCollection bytes founds × AllZip IsListed listing founds
 
 -- level n of a listing, counted from 1; none where there are fewer
 abbrev pub level_at : List Listed → ℕ → Option (Result Board LevelFault)
@@ -27,4 +27,5 @@ level_at listing n = option_map (λ listed. listed.board) (slice_get listing (n 
 
 -- level n of the collection is lawful and has this board
 abbrev pub IsLevelOf : List ℕ → ℕ → Board → Type 0
-IsLevelOf bytes n board = (listing : List Listed) × IsListing bytes listing × (level_at listing n ≡ Some (Ok board))
+IsLevelOf bytes n board = (listing : List Listed) × IsLevelListing bytes listing ×
+    (level_at listing n ≡ Some (Ok board))

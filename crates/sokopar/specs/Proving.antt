@@ -6,7 +6,7 @@ use Rattle.lurd.specs.declared.verdict.Verdict.{Verdict}
 use Rattle.lurd.specs.declared.verdict.Verdict.TheVariants.{Solved, Unsolved, Blocked, WrongCase}
 use Rattle.prover.specs.Fewest.{NoneHasFewer}
 use Rattle.sokopar.specs.Best.{IsUndecided, undecided_words}
-use Rattle.sokopar.specs.Listing.{Listed, IsListing, level_at}
+use Rattle.sokopar.specs.Listing.{Listed, IsLevelListing, level_at}
 use Rattle.sokopar.specs.Moves.{IsBestSolution, IsClaim, best_words, claim_status, claimed_words, optimal_words}
 use Rattle.sokopar.specs.Report.{Report, ReportsOnText, IsOfText, IsSearchOf, counts_words, line, one_line}
 use Rattle.sokopar.specs.Report.{verdict_report}
@@ -66,5 +66,5 @@ IsProofOf wanted limit board solution report = IsOfText (IsProvedBy wanted limit
 -- under a limit of positions
 abbrev pub IsProveReport : Bool → ℕ → ℕ → List ℕ → Option (List ℕ) → Report → Type 0
 IsProveReport wanted limit n bytes solution report =
-    (listing : List Listed) × IsListing bytes listing ×
+    (listing : List Listed) × IsLevelListing bytes listing ×
     ReportsOnText (IsProofOf wanted limit) n (level_at listing n) solution report

@@ -16,7 +16,7 @@ use Rattle.lurd.specs.declared.fault.LurdFault.TheVariants as text
 use Rattle.lurd.specs.declared.verdict.Verdict.{Verdict}
 use Rattle.lurd.specs.declared.verdict.Verdict.TheVariants as verdict
 use Rattle.xsb.specs.Written.{written}
-use Rattle.sokopar.specs.Listing.{Listed, IsListing, level_at}
+use Rattle.sokopar.specs.Listing.{Listed, IsLevelListing, level_at}
 
 -- what is written, byte by byte, and the exit status: 0 for good, 4 if a search passed its limit, 1 otherwise
 pub record Report : Type 0 where
@@ -149,14 +149,15 @@ IsSearchOf Finds board report =
 
 -- the report of checking these bytes
 abbrev pub IsCheckReport : List ℕ → Report → Type 0
-IsCheckReport bytes report = (listing : List Listed) × IsListing bytes listing × (report ≡ check_report listing)
+IsCheckReport bytes report = (listing : List Listed) × IsLevelListing bytes listing × (report ≡ check_report listing)
 
 -- the report of showing level n of these bytes
 abbrev pub IsShowReport : ℕ → List ℕ → Report → Type 0
 IsShowReport n bytes report =
-    (listing : List Listed) × IsListing bytes listing × ReportsOn IsShown n (level_at listing n) report
+    (listing : List Listed) × IsLevelListing bytes listing × ReportsOn IsShown n (level_at listing n) report
 
 -- the report of replaying on level n of these bytes a solution, if one was read
 abbrev pub IsReplayReport : ℕ → List ℕ → Option (List ℕ) → Report → Type 0
 IsReplayReport n bytes solution report =
-    (listing : List Listed) × IsListing bytes listing × ReportsOnText IsReplayOf n (level_at listing n) solution report
+    (listing : List Listed) × IsLevelListing bytes listing ×
+    ReportsOnText IsReplayOf n (level_at listing n) solution report

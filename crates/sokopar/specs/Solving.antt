@@ -5,7 +5,7 @@ use Rattle.lurd.specs.Text.{bytes_of}
 use Rattle.solo.specs.Answers.{IsAnswer}
 use Rattle.solo.specs.declared.answer.Answer.{Answer}
 use Rattle.solo.specs.declared.answer.Answer.TheVariants.{Solved, Unsolvable, NoneWithin, Limit}
-use Rattle.sokopar.specs.Listing.{Listed, IsListing, level_at}
+use Rattle.sokopar.specs.Listing.{Listed, IsLevelListing, level_at}
 use Rattle.sokopar.specs.Report.{Report, ReportsOn, IsSearchOf, cap_words, line, one_line, counts_words}
 
 -- a number of positions
@@ -38,4 +38,5 @@ IsSolveOf cap limit board report = IsSearchOf (IsAnswered cap limit) board repor
 -- the report of solving level n of these bytes under a cap of pushes and a limit of positions
 abbrev pub IsSolveReport : Option ℕ → ℕ → ℕ → List ℕ → Report → Type 0
 IsSolveReport cap limit n bytes report =
-    (listing : List Listed) × IsListing bytes listing × ReportsOn (IsSolveOf cap limit) n (level_at listing n) report
+    (listing : List Listed) × IsLevelListing bytes listing ×
+    ReportsOn (IsSolveOf cap limit) n (level_at listing n) report

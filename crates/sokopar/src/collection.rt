@@ -2,7 +2,7 @@
 ghost use Rattle.std.specs.Prelude.{◌≡◌, ◌≤◌, length, IfOk, IfErr, MatchBool, Err};
 ghost use Rattle.sokopar.specs.Collection.{BeginsCollectionReport, IsBetween, IsCollectionReport, reported_line};
 ghost use Rattle.sokopar.specs.inside.Sending.{SendsByLine, SendsLevel, SendsLevels, SendsLine};
-ghost use Rattle.sokopar.specs.inside.Totals.{AreFew, line_of_totals};
+ghost use Rattle.sokopar.specs.inside.Totals.{AreFewLevels, line_of_totals};
 
 use crate::fault::RunFault;
 use crate::finding::{Finding, find, put_finding};
@@ -76,7 +76,7 @@ fn send_level<R: Threads + Sync, K: Sink>(
     totals: Totals,
     sink: &mut K,
 ) -> Result<Totals, RunFault>
-    requires { AreFew totals }
+    requires { AreFewLevels totals }
     ensures { SendsLevel config.moves config.cap config.limit number board.now totals (K.seen sink.old)
         (K.seen sink.new) result }
 {
@@ -95,7 +95,7 @@ fn send_board<R: Threads + Sync, K: Sink>(
     totals: Totals,
     sink: &mut K,
 ) -> Result<Totals, RunFault>
-    requires { AreFew totals }
+    requires { AreFewLevels totals }
     ensures { SendsLevel config.moves config.cap config.limit number entry.board totals (K.seen sink.old)
         (K.seen sink.new) result }
 {

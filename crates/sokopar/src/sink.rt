@@ -1,6 +1,6 @@
 ghost use Rattle.std.specs.Prelude.{◌≡◌, [], ◌∷◌, ◌++◌, ◌≤◌, length, take, IfOk, OnErr};
 ghost use Rattle.std.specs.Io.KnownBytes.{WriteAppends};
-ghost use Rattle.sokopar.specs.Ends.{Seen, moved, failed, untouched};
+ghost use Rattle.sokopar.specs.Ends.{Seen, moved, failed, untouched_end};
 
 use crate::trail::{Event, Failed, Trail};
 use std::fmt;
@@ -31,7 +31,7 @@ pub struct Writer<W: Write> {
 impl<W: Write + Drop> Writer<W> {
     /// The sink that writes to this writer.
     pub fn new(writer: W) -> Writer<W>
-        ensures { ⟦<Writer<W> as Sink>⟧.seen result ≡ untouched (W.contents writer) }
+        ensures { ⟦<Writer<W> as Sink>⟧.seen result ≡ untouched_end (W.contents writer) }
     {
         Writer {
             writer,

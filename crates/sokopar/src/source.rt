@@ -1,6 +1,6 @@
 ghost use Rattle.std.specs.Prelude.{◌≡◌, [], ◌∷◌, ◌++◌, ◌≤◌, length, take, IfOk, OnErr};
 ghost use Rattle.std.specs.Io.KnownBytes.{ReadConsumes};
-ghost use Rattle.sokopar.specs.Ends.{Seen, moved, failed, untouched};
+ghost use Rattle.sokopar.specs.Ends.{Seen, moved, failed, untouched_end};
 
 use crate::trail::{Event, Failed, Trail};
 use std::fmt;
@@ -31,7 +31,7 @@ pub struct Reader<R: Read> {
 impl<R: Read + Drop> Reader<R> {
     /// The source of the bytes that the reader has left.
     pub fn new(reader: R) -> Reader<R>
-        ensures { ⟦<Reader<R> as Source>⟧.seen result ≡ untouched (R.remaining reader) }
+        ensures { ⟦<Reader<R> as Source>⟧.seen result ≡ untouched_end (R.remaining reader) }
     {
         Reader {
             reader,

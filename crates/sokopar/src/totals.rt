@@ -1,6 +1,6 @@
 ghost use Rattle.std.specs.Prelude.{◌≡◌, ◌++◌, OnOk};
 ghost use Rattle.sokopar.specs.Collection.{unsolved_words};
-ghost use Rattle.sokopar.specs.inside.Totals.{AreFew, counted, status_of, totals_of, line_of_totals};
+ghost use Rattle.sokopar.specs.inside.Totals.{AreFewLevels, counted, status_of, totals_of, line_of_totals};
 
 use crate::best::put_none_within;
 use crate::finding::Finding;
@@ -40,7 +40,7 @@ impl Totals {
 
     /// The totals with one level more.
     pub(crate) fn with(self, finding: &Finding) -> Totals
-        requires { AreFew self }
+        requires { AreFewLevels self }
         ensures { result ≡ counted self finding.now }
     {
         let levels = self.levels + 1;

@@ -11,7 +11,7 @@ use Rattle.layers.specs.Books.{AllDone, HasBegun}
 use Rattle.layers.specs.Holding.{all_held, held}
 use Rattle.successors.proofs.lemmas.Lists.{each_set, set_here, sum_by_first, take_push}
 use Rattle.solo.specs.inside.Iterations.{AreDoneBy, IsDoneBy}
-use Rattle.solo.specs.inside.Together.{AreStill, IsFull, IsStill, PassTogether}
+use Rattle.solo.specs.inside.Together.{AreStill, IsFullBook, IsStill, PassTogether}
 use Rattle.solo.proofs.Credits.{by_nobody}
 use Rattle.solo.proofs.Each.{HaveChangedUpTo, ended_at, next_kept, some_changed}
 
@@ -47,7 +47,7 @@ held_set (b ∷ books) (suc place) v w at =
 
 -- where it holds more than the limit leaves, or is over, they pass the limit together
 pub full_pass : (limit left : ℕ) (books : List BookView) (place : ℕ) (v w : BookView) → left + all_held books ≡ limit → AreLawfulBooks books →
-    slice_get books place ≡ Some v → IsLawfulBook w → IsFull (held v + left) w → PassTogether limit (set books place w)
+    slice_get books place ≡ Some v → IsLawfulBook w → IsFullBook (held v + left) w → PassTogether limit (set books place w)
 full_pass limit left books place v w leaves all at new full = (
   each_set IsLawfulBook books place w new all,
   elim full [

@@ -15,7 +15,7 @@ use Rattle.layers.specs.declared.fault.CloseFault.TheVariants.{NotAll}
 use Rattle.layers.specs.Events.{AreMadeAlike}
 use Rattle.layers.proofs.lemmas.Books.{begun_ranks, true_cases, true_kept}
 use Rattle.successors.proofs.lemmas.Lists.{count-set_true}
-use Rattle.solo.specs.inside.Iterations.{IsDue, IsOfRank, IsStillAt, with_over}
+use Rattle.solo.specs.inside.Iterations.{IsOnlyClaimed, IsOfRank, IsStillAt, with_over}
 
 -- ---- ranks
 
@@ -41,9 +41,9 @@ all_done book after layer begun done (taken, same) = subst AllDone (sym same) (b
 -- the rank that is claimed next is due
 pub due_next : (start book after : BookView) (layer : LayerView) (parcel : ParcelView) (claim : Claim) → IsStillAt start layer book →
     ((r : ℕ) → get_or book.claimed r false ≡ true → IsDone book r) → ClaimAnswer book (Some claim) after → IsOfRank layer claim.rank parcel →
-    IsDue start layer after parcel
+    IsOnlyClaimed start layer after parcel
 due_next start book after layer parcel claim still done (number, free, before, is) (level, of, rank) =
-    subst (λ v. IsDue start layer v parcel) (sym is) (record {
+    subst (λ v. IsOnlyClaimed start layer v parcel) (sym is) (record {
       still = record { alike = still.alike; closed = still.closed; begun = still.begun; ranks = still.ranks };
       of = (level, of, refl);
       free = ap (slice_get book.done) rank ∙ free.1;
@@ -51,12 +51,12 @@ due_next start book after layer parcel claim still done (number, free, before, i
     })
 
 -- a rank that is due is one of the layer at work
-pub due_work : (start book : BookView) (layer : LayerView) (parcel : ParcelView) → IsDue start layer book parcel → IsAtWork book parcel
+pub due_work : (start book : BookView) (layer : LayerView) (parcel : ParcelView) → IsOnlyClaimed start layer book parcel → IsAtWork book parcel
 due_work start book layer parcel due =
     (due.of.0 ∙ due.still.begun.0, due.of.1 ∙ due.still.begun.1, slice_get_within book.done parcel.rank false due.free)
 
 -- once it was handed back, the book is still at work on the layer
-pub done_still : (start book after : BookView) (layer : LayerView) (parcel : ParcelView) (worker : ℕ) → IsDue start layer book parcel →
+pub done_still : (start book after : BookView) (layer : LayerView) (parcel : ParcelView) (worker : ℕ) → IsOnlyClaimed start layer book parcel →
     after ≡ with_parcel book worker parcel → IsStillAt start layer after
 done_still start book after layer parcel worker due is =
     let still = due.still in
@@ -68,7 +68,7 @@ done_still start book after layer parcel worker due is =
     })
 
 -- and all that is claimed is done
-pub done_claimed : (start book after : BookView) (layer : LayerView) (parcel : ParcelView) (worker : ℕ) → IsDue start layer book parcel →
+pub done_claimed : (start book after : BookView) (layer : LayerView) (parcel : ParcelView) (worker : ℕ) → IsOnlyClaimed start layer book parcel →
     after ≡ with_parcel book worker parcel → (r : ℕ) → get_or after.claimed r false ≡ true → IsDone after r
 done_claimed start book after layer parcel worker due is =
     subst (λ v. (r : ℕ) → get_or v.claimed r false ≡ true → IsDone v r) (sym is)
@@ -79,14 +79,14 @@ done_claimed start book after layer parcel worker due is =
     ])
 
 -- where its limit was passed the book is still at work on the layer
-pub over_still : (start book after : BookView) (layer : LayerView) (parcel : ParcelView) → IsDue start layer book parcel → after ≡ with_over book →
+pub over_still : (start book after : BookView) (layer : LayerView) (parcel : ParcelView) → IsOnlyClaimed start layer book parcel → after ≡ with_over book →
     IsStillAt start layer after
 over_still start book after layer parcel due is =
     let still = due.still in
     subst (λ v. IsStillAt start layer v) (sym is) (record { alike = still.alike; closed = still.closed; begun = still.begun; ranks = still.ranks })
 
 -- one rank less is left to do
-pub fewer_left : (start book after next : BookView) (layer : LayerView) (parcel : ParcelView) (worker : ℕ) → IsDue start layer book parcel →
+pub fewer_left : (start book after next : BookView) (layer : LayerView) (parcel : ParcelView) (worker : ℕ) → IsOnlyClaimed start layer book parcel →
     after ≡ with_parcel book worker parcel → next.done ≡ after.done → length layer.places - count_by (λ b. b) next.done < length layer.places - count_by
     (λ b. b) book.done
 fewer_left start book after next layer parcel worker due is same =

@@ -14,14 +14,14 @@ use Rattle.layers.specs.LayerView.{LayerView, IsWhole}
 use Rattle.successors.proofs.lemmas.Lists.{at-push}
 use Rattle.solo.specs.Answers.{HasNone, IsAnswer}
 use Rattle.solo.specs.Leads.{AreUnsolved, IsFirstSolved, WritesLead}
-use Rattle.solo.specs.inside.Searched.{AreSearched, AreTrailed, IsNextLayer, IsExamined, IsLookedAt, IsNextOf, SearchView, places_of}
+use Rattle.solo.specs.inside.Searched.{AreSearched, AreTrailed, IsNextLayer, IsExamined, IsLookedAt, IsNextOf, SearchView, places_by_layer}
 use Rattle.solo.specs.declared.answer.Answer.TheVariants.{Solved, Limit}
 use Rattle.solo.proofs.ReadingBack.{trail_long}
 use Rattle.solo.proofs.Solving.{searched_more, solved_answer, none_answer, limit_answer}
 
 -- the next layer is that of the level
 next_layer : (task : Task) (layers : List LayerView) (trail : List (List (Origin Push))) (layer : LayerView) → AreTrailed task layers trail →
-    layer.level ≡ task → layer.number ≡ length trail → IsWhole layer → IsLayerOf task (length (places_of layers)) layer.places
+    layer.level ≡ task → layer.number ≡ length trail → IsWhole layer → IsLayerOf task (length (places_by_layer layers)) layer.places
 next_layer task layers trail layer trailed level next whole =
     subst (λ k. IsLayerOf task k layer.places) (next ∙ sym (trail_long task layers trail trailed) ∙ sym (length-map layers (λ (x : LayerView). x.places)))
     (subst (λ b. IsLayerOf b layer.number layer.places) level whole.layer)
@@ -55,7 +55,7 @@ module _ (s : SearchView) (layer : LayerView) (looked : IsLookedAt s.task s.limi
   abbrev layers : List LayerView
   layers = looked.layers
 
-  here : IsLayerOf s.task (length (places_of layers)) layer.places
+  here : IsLayerOf s.task (length (places_by_layer layers)) layer.places
   here = next_layer s.task layers s.trail layer looked.trailed next.0 next.1 whole
 
   level : IsLevel s.task.board
@@ -68,23 +68,23 @@ module _ (s : SearchView) (layer : LayerView) (looked : IsLookedAt s.task s.limi
   solved_here rank letters first lead within =
       let first_here : IsFirstSolved s.task.board layer.places rank = subst (λ (t : Task). IsFirstSolved t.board layer.places rank) next.0 first in
       subst (λ p. IsAnswer s.task s.limit (Solved letters layer.number p)) (omega (arith, looked.count))
-      (subst (λ k. IsAnswer s.task s.limit (Solved letters k (total (places_of layers) + length layer.places)))
+      (subst (λ k. IsAnswer s.task s.limit (Solved letters k (total (places_by_layer layers) + length layer.places)))
       (length-map layers (λ (x : LayerView). x.places) ∙ trail_long s.task layers s.trail looked.trailed ∙ sym next.1)
-      (solved_answer s.task s.limit (places_of layers) layer.places rank first_here.place letters level looked.searched
+      (solved_answer s.task s.limit (places_by_layer layers) layer.places rank first_here.place letters level looked.searched
       here first_here first_here.there
       (subst (λ (t : Task). WritesLead t.board first_here.place letters) next.0 (lead first_here.place first_here.there)) (omega (arith, looked.count, within))))
 
   -- with it the count passes the limit
   pub look_limit : s.limit < s.positions + length layer.places → IsAnswer s.task s.limit Limit
-  look_limit passed = limit_answer s.task s.limit (places_of layers) layer.places level looked.searched here (omega (arith, looked.count, passed))
+  look_limit passed = limit_answer s.task s.limit (places_by_layer layers) layer.places level looked.searched here (omega (arith, looked.count, passed))
 
   -- it is empty
   pub look_none : length layer.places ≡ 0 → HasNone s.task s.limit (s.positions + length layer.places)
   look_none none =
       subst (HasNone s.task s.limit) same
-      (none_answer s.task s.limit (places_of layers) level looked.searched
-      (subst (IsLayerOf s.task (length (places_of layers))) (nil_from_length layer.places none) here) (omega (arith, looked.count, looked.within))) where
-        same : total (places_of layers) ≡ s.positions + length layer.places
+      (none_answer s.task s.limit (places_by_layer layers) level looked.searched
+      (subst (IsLayerOf s.task (length (places_by_layer layers))) (nil_from_length layer.places none) here) (omega (arith, looked.count, looked.within))) where
+        same : total (places_by_layer layers) ≡ s.positions + length layer.places
         same = omega (arith, looked.count, none)
 
   -- it gives no answer
@@ -93,7 +93,7 @@ module _ (s : SearchView) (layer : LayerView) (looked : IsLookedAt s.task s.limi
     looked = record {
       layers = layers ++ layer ∷ [];
       trailed = trailed_more s.task layers s.trail layer looked.trailed next.0 next.1 whole;
-      searched = subst (AreSearched s.task) (sym places) (searched_more s.task (places_of layers) layer.places looked.searched here filled
+      searched = subst (AreSearched s.task) (sym places) (searched_more s.task (places_by_layer layers) layer.places looked.searched here filled
           (subst (λ (t : Task). AreUnsolved t.board layer.places) next.0 unsolved));
       count = counted;
       within = within;
@@ -101,8 +101,8 @@ module _ (s : SearchView) (layer : LayerView) (looked : IsLookedAt s.task s.limi
     filled = filled;
   }
     where
-      places : places_of (layers ++ layer ∷ []) ≡ places_of layers ++ layer.places ∷ []
+      places : places_by_layer (layers ++ layer ∷ []) ≡ places_by_layer layers ++ layer.places ∷ []
       places = map-append (λ (x : LayerView). x.places) layers (layer ∷ [])
 
-      counted : s.positions + length layer.places ≡ total (places_of (layers ++ layer ∷ []))
-      counted = omega (arith, looked.count, ap total places, sum_by_push length (places_of layers) layer.places)
+      counted : s.positions + length layer.places ≡ total (places_by_layer (layers ++ layer ∷ []))
+      counted = omega (arith, looked.count, ap total places, sum_by_push length (places_by_layer layers) layer.places)

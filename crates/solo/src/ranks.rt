@@ -6,7 +6,7 @@ ghost use Rattle.layers.specs.Books.{AllDone, AreAllShares, IsAtWork, IsJoinOf, 
 ghost use Rattle.solo.specs.inside.Rests.{IsClosedIfDone, MayBeClosed, MayBeClosedEach};
 ghost use Rattle.solo.specs.inside.Iterations.{HaveBegun, HaveChanged, IsDoneBy, IsReopenedAt, IsStillAt};
 ghost use Rattle.solo.specs.inside.Iterations.{MayHaveBegun, with_over};
-ghost use Rattle.solo.specs.inside.Together.{IsFull};
+ghost use Rattle.solo.specs.inside.Together.{IsFullBook};
 
 use area::Scratch;
 use grid::Square;
@@ -66,7 +66,7 @@ pub(crate) fn do_ranks(
     requires worker { worker < book.old.workers }
     requires room { scratch.old.size ≡ length layer.now.level.board.cells }
     ensures still { IsStillAt book.old layer.now book.new }
-    ensures done { IfOk result (λ within. MatchBool within (AllDone book.new) (IsFull most book.new)) }
+    ensures done { IfOk result (λ within. MatchBool within (AllDone book.new) (IsFullBook most book.new)) }
     ensures credited { IsDoneBy worker book.old book.new }
     ensures size { scratch.new.size ≡ scratch.old.size }
 {

@@ -5,7 +5,7 @@ ghost use Rattle.successors.specs.declared.limits.TheConstants.{MAX_SHARES};
 ghost use Rattle.layers.specs.BookView.{BookView, AreLawfulBooks, IsLawfulBook};
 ghost use Rattle.layers.specs.Books.{AllDone, HasBegun};
 ghost use Rattle.layers.specs.Holding.{all_held, held};
-ghost use Rattle.solo.specs.inside.Together.{AreAllDone, AreStill, IsFull, IsOneOver, IsStill, PassTogether};
+ghost use Rattle.solo.specs.inside.Together.{AreAllDone, AreStill, IsFullBook, IsOneOver, IsStill, PassTogether};
 ghost use Rattle.solo.specs.inside.Iterations.{AreDoneBy, IsDoneBy};
 
 use crate::ranks::do_ranks;
@@ -29,7 +29,7 @@ pub(crate) fn do_rest_of(
     ensures still { IsStill layer.now book.old book.new }
     ensures credited { IsDoneBy worker book.old book.new }
     ensures within { IfOk result
-        (λ within. MatchBool within (AllDone book.new) (IsFull (held book.old + left) book.new)) }
+        (λ within. MatchBool within (AllDone book.new) (IsFullBook (held book.old + left) book.new)) }
     ensures lawful { OnOk result (IsLawfulBook book.new) }
     ensures size { scratch.new.size ≡ scratch.old.size }
 {

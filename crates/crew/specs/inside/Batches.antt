@@ -6,8 +6,8 @@ use Rattle.claims.specs.declared.views.Hand.{Hand}
 use Rattle.crew.specs.Work.{IsOfLayer}
 
 -- the parcel is that of a rank of the layer
-abbrev pub IsOfRank : LayerView → ℕ → ParcelView → Type 0
-IsOfRank layer rank parcel = IsOfLayer layer parcel × (parcel.rank ≡ rank)
+abbrev pub IsParcelOfRank : LayerView → ℕ → ParcelView → Type 0
+IsParcelOfRank layer rank parcel = IsOfLayer layer parcel × (parcel.rank ≡ rank)
 
 -- each parcel is of the layer
 abbrev pub AreOfLayer : LayerView → List ParcelView → Type 0

@@ -9,7 +9,7 @@ use Rattle.crew.specs.declared.end.End.{End}
 use Rattle.crew.specs.inside.Sharing.{SharedView}
 
 -- the scratch is for the layer's level, and the drawer has the worker's place in the ledger
-pub record IsReady (shared : SharedView) (worker : ℕ) (scratch : Reach) (drawer : DrawerView) : Type 0 where
+pub record IsEquipped (shared : SharedView) (worker : ℕ) (scratch : Reach) (drawer : DrawerView) : Type 0 where
   pub room : scratch.size ≡ length shared.layer.level.board.cells
   pub place : IsAtPlace shared.ledger worker drawer
 

@@ -5,19 +5,19 @@ use Rattle.crew.specs.declared.end.End.{End}
 use Rattle.crew.specs.declared.end.End.TheVariants.{Drained, Refused, Stopped, Foreign, NoPlace}
 
 -- the count after one more event; the greatest number stays
-abbrev pub counted : ℕ → ℕ
-counted nth = min (nth + 1) (2 ^ 64 - 1)
+abbrev pub counted_event : ℕ → ℕ
+counted_event nth = min (nth + 1) (2 ^ 64 - 1)
 
 -- one more event, for which the gate was called, and to which it may give this answer
 pub record IsTold (may_answer : ℕ → Bool → Bool) (nth : ℕ) (answer : Bool) (after : ℕ) : Type 0 where
-  pub count : after ≡ counted nth
+  pub count : after ≡ counted_event nth
   pub may : may_answer after answer ≡ true
 
 -- this number of events more, and after each the gate let the worker go on
-abbrev pub GoesOn : (ℕ → Bool → Bool) → ℕ → ℕ → ℕ → Type 0
-GoesOn may_answer nth zero after = after ≡ nth
-GoesOn may_answer nth (suc events) after =
-    (last : ℕ) × GoesOn may_answer nth events last × IsTold may_answer last true after
+abbrev pub MayGoOn : (ℕ → Bool → Bool) → ℕ → ℕ → ℕ → Type 0
+MayGoOn may_answer nth zero after = after ≡ nth
+MayGoOn may_answer nth (suc events) after =
+    (last : ℕ) × MayGoOn may_answer nth events last × IsTold may_answer last true after
 
 -- how a worker that is not drained ends at once: the gate does not let it go on after one more event, or a book ends
 -- it with no event
@@ -42,10 +42,10 @@ DrawsAtLast may_answer hand nth later after NoPlace = ⊥
 -- except after the last one of a stopped worker
 abbrev pub GoesOnUntil : (ℕ → Bool → Bool) → ℕ → ℕ → ℕ → End → Type 0
 GoesOnUntil may_answer nth events after Stopped =
-    (before : ℕ) × (last : ℕ) × (events ≡ suc before) × GoesOn may_answer nth before last ×
+    (before : ℕ) × (last : ℕ) × (events ≡ suc before) × MayGoOn may_answer nth before last ×
     IsTold may_answer last false after
-GoesOnUntil may_answer nth events after (Refused refusal) = GoesOn may_answer nth events after
-GoesOnUntil may_answer nth events after Foreign = GoesOn may_answer nth events after
+GoesOnUntil may_answer nth events after (Refused refusal) = MayGoOn may_answer nth events after
+GoesOnUntil may_answer nth events after Foreign = MayGoOn may_answer nth events after
 GoesOnUntil may_answer nth events after Drained = ⊥
 GoesOnUntil may_answer nth events after NoPlace = ⊥
 
@@ -67,4 +67,4 @@ pub record DrawsUntil (may_answer : ℕ → Bool → Bool) (hand : Hand) (nth : 
 pub record HasLeft (may_answer : ℕ → Bool → Bool) (books left : ℕ) (hand later : Hand) (after : ℕ) : Type 0 where
   pub done : ℕ
   pub all : length later.numbers ≡ length hand.numbers + done + left
-  pub on : GoesOn may_answer 0 (done + left + done * books) after
+  pub on : MayGoOn may_answer 0 (done + left + done * books) after

@@ -21,7 +21,7 @@ use Rattle.store.specs.FoundView.{AllFit, FitsGrid, FoundView}
 use Rattle.store.proofs.lemmas.Fitting.{level_fits}
 use Rattle.successors.specs.ParcelView.{ParcelView, IsParcel}
 use Rattle.layers.specs.BookView.{BookView, IsLawfulBook}
-use Rattle.layers.specs.Books.{is_wanted, all_entered, with_parcel, IsAtWork, ExceedsLimit, MayEnter, IsTaken, AllDone, with_closed, IsSortedOpen, IsClosedBy}
+use Rattle.layers.specs.Books.{is_wanted, all_entered, with_parcel, IsAtWork, ExceedsLimit, MayEnter, IsClaimedOrDone, AllDone, with_closed, IsSortedOpen, IsClosedBy}
 use Rattle.store.specs.Entering.{is_wanted_in, entered, offered, closed_entry, RiseByOrigin, AreReordered}
 use Rattle.layers.proofs.lemmas.Exchange.{found}
 use Rattle.layers.specs.declared.book.Book.TheInside.{Inside}
@@ -33,8 +33,8 @@ use Rattle.layers.proofs.lemmas.BookEvents.{lawful_parcel, lawful_over, lawful_c
 -- ---- taken ranks
 
 -- once a rank is claimed, each rank up to it is taken
-pub claimed-taken : (v : BookView) (k : ℕ) → k < length v.claimed → ((r : ℕ) → r < k → IsTaken v r) → (r : ℕ) → r < k + 1 →
-    IsTaken (record v { claimed = set v.claimed k true }) r
+pub claimed-taken : (v : BookView) (k : ℕ) → k < length v.claimed → ((r : ℕ) → r < k → IsClaimedOrDone v r) → (r : ℕ) → r < k + 1 →
+    IsClaimedOrDone (record v { claimed = set v.claimed k true }) r
 claimed-taken v k lt taken r le = elim (cases_lt r k) [
   | inl below ↦ elim (taken r below) [ inl c ↦ inl (true_kept v.claimed k r c) | inr d ↦ inr d ]
   | inr above ↦ (let e : r ≡ k = omega arith in
@@ -172,7 +172,7 @@ fits_few parcel is task same v boxes_are squares_are ss e = record {
 }
 
 -- ranks stay taken when one more is done
-pub taken_done : (v : BookView) (k r : ℕ) → IsTaken v r → IsTaken (record v { done = set v.done k true }) r
+pub taken_done : (v : BookView) (k r : ℕ) → IsClaimedOrDone v r → IsClaimedOrDone (record v { done = set v.done k true }) r
 taken_done v k r taken = elim taken [ inl c ↦ inl c | inr d ↦ inr (true_kept v.done k r d) ]
 
 -- ---- a close, on the fields

@@ -12,6 +12,6 @@ abbrev pub marks_of : List ℕ → ℕ → List Bool
 marks_of words len = marks_from words 0 len
 
 -- the words have a bit for each of len ranks, and set of these are set
-pub record AreMarks (words : List ℕ) (len set : ℕ) : Type 0 where
+pub record AreRankBits (words : List ℕ) (len set : ℕ) : Type 0 where
   pub enough : length words ≡ word_count len
   pub counted : set ≡ count_by (λ b. b) (marks_of words len)

@@ -12,7 +12,7 @@ use Rattle.layers.specs.declared.book.Book.TheInside.{Inside}
 use Rattle.successors.specs.Tasks.{Task}
 use Rattle.successors.specs.Capping.{Admits}
 use Rattle.layers.specs.BookView.{BookView, IsLawfulBook}
-use Rattle.layers.specs.Books.{IsTaken}
+use Rattle.layers.specs.Books.{IsClaimedOrDone}
 
 -- a list cut into pieces at these indices: each piece ends where the next one begins, and the last one at the end
 abbrev pub cut_at : {A : Type 0} → List ℕ → List A → List (List A)
@@ -49,8 +49,8 @@ pub record AreCuts (starts : List ℕ) (len : ℕ) : Type 0 where
   pub within : (j p : ℕ) → slice_get starts j ≡ Some p → p ≤ len
 
 -- piece k begins at p and ends before q, where the next one begins or the list ends
-abbrev pub IsPiece : List ℕ → ℕ → ℕ → ℕ → ℕ → Type 0
-IsPiece starts len k p q = (slice_get starts k ≡ Some p) ×
+abbrev pub IsListPiece : List ℕ → ℕ → ℕ → ℕ → ℕ → Type 0
+IsListPiece starts len k p q = (slice_get starts k ≡ Some p) ×
     ((slice_get starts (suc k) ≡ Some q) ⊎ ((slice_get starts (suc k) ≡ None) × (q ≡ len)))
 
 -- a book's fields are those of a lawful book with at most MAX_BOXES boxes; its keys suit its boxes and squares; each
@@ -61,4 +61,4 @@ pub record IsSoundBook (a : Inside) : Type 0 where
   pub boxes : (a.found.boxes ≡ box_count (arc_value a.problem).board) ×
       (a.found.squares ≡ length (arc_value a.problem).board.cells)
   pub cuts : AreCuts a.starts.items (length a.found.seen)
-  pub taken : (r : ℕ) → r < a.next → IsTaken (book_view a) r
+  pub taken : (r : ℕ) → r < a.next → IsClaimedOrDone (book_view a) r

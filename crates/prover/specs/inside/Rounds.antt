@@ -4,11 +4,11 @@ use Rattle.successors.specs.Tasks.{Task}
 use Rattle.prover.specs.declared.lane.Job.{Job}
 use Rattle.prover.specs.declared.lane.Lane.{Lane}
 use Rattle.prover.specs.declared.rounds.Desk.{Desk}
-use Rattle.prover.specs.inside.Working.{IsExpansion, IsReady}
+use Rattle.prover.specs.inside.Working.{IsExpansion, MayBeExpanded}
 
 -- the job is for a position that can be expanded. Once it is done, it holds what the expansion has found
 pub record IsJob (t : Task) (job : Job) : Type 0 where
-  pub ready : IsReady t.board job.from
+  pub ready : MayBeExpanded t.board job.from
   pub found : IsTrue job.is_done → IsExpansion t.board t.cap job.from job.opened.items job.next
 
 abbrev pub AreJobs : Task → List Job → Type 0

@@ -19,7 +19,7 @@ use Rattle.prover.specs.declared.pushing.Expanded.{Expanded}
 use Rattle.prover.specs.declared.pushing.Opened.{Opened}
 use Rattle.prover.specs.declared.queue.Ticket.{Ticket}
 use Rattle.store.specs.Visited.{Entry, VisitedView, with_least}
-use Rattle.prover.specs.Frontier.{IsFound, IsTotal, Keeps, AreFew, AreFrom, ComesFrom, IsUnderWay}
+use Rattle.prover.specs.Frontier.{IsFoundWithin, IsTotal, Keeps, AreFew, AreFrom, ComesFrom, IsSearchUnderWay}
 
 -- ---- the queue
 
@@ -27,8 +27,8 @@ use Rattle.prover.specs.Frontier.{IsFound, IsTotal, Keeps, AreFew, AreFrom, Come
 abbrev pub Waits : List Ticket → ℕ → ℕ → Type 0
 Waits tickets least place = (t : Ticket) × Contains tickets t × (t.least.0 ≡ least) × (t.place ≡ place)
 
--- the ticket is the first, and none that waits has a lesser total
-pub record IsFirst (tickets : List Ticket) (t : Ticket) : Type 0 where
+-- the ticket is the first, and none that waits has a lesser_total total
+pub record IsFirstTicket (tickets : List Ticket) (t : Ticket) : Type 0 where
   pub at : slice_get tickets 0 ≡ Some t
   pub least : (least place : ℕ) → Waits tickets least place → t.least.0 ≤ least
 
@@ -40,8 +40,8 @@ IsQueued all tickets =
 -- ---- how what was found changes
 
 -- a search is under way, and what it has found is of the board's size
-pub record IsSearched (board : Board) (cap : Option ℕ) (v : VisitedView) : Type 0 where
-  pub under_way : IsUnderWay board cap v.entries
+pub record IsSearchOnBoard (board : Board) (cap : Option ℕ) (v : VisitedView) : Type 0 where
+  pub under_way : IsSearchUnderWay board cap v.entries
   pub boxes : v.boxes ≡ box_count board
   pub squares : v.squares ≡ length board.cells
 
@@ -74,7 +74,7 @@ abbrev pub turns_left : ℕ → List Entry → ℕ
 turns_left limit all = turns all + (limit - length all) * (4294967297 * limit + 4294967297)
 
 -- there are no fewer positions, and no more turns are left
-pub record GoesOn (old new : List Entry) : Type 0 where
+pub record GetsOn (old new : List Entry) : Type 0 where
   pub more : length old ≤ length new
   pub turns : (limit : ℕ) → length new ≤ limit → turns_left limit new ≤ turns_left limit old
 
@@ -82,18 +82,18 @@ pub record GoesOn (old new : List Entry) : Type 0 where
 pub record Enters (old new : List Entry) (e : Entry) : Type 0 where
   pub still : KeepPlaces old new
   pub below : StayBelow e.pushes old new
-  pub found : IsFound new e.pushes e.position
+  pub found : IsFoundWithin new e.pushes e.position
   pub each : (i : ℕ) (y : Entry) → slice_get new i ≡ Some y → (slice_get old i ≡ Some y) ⊎ (y ≡ e)
   pub few : e.pushes ≤ length old → AreFew old → AreFew new
-  pub goes_on : e.pushes ≤ length old → GoesOn old new
+  pub goes_on : e.pushes ≤ length old → GetsOn old new
 
--- the position at the place is open with this least total, and no open one has a lesser total
+-- the position at the place is open with this least total, and no open one has a lesser_total total
 abbrev pub IsLeastOpen : List Entry → ℕ → ℕ → Type 0
 IsLeastOpen all place least = (x : Entry) × (slice_get all place ≡ Some x) × (x.least ≡ Some least) × AreFrom least all
 
 -- the position has the place, found with k pushes
-abbrev pub IsAtPlace : List Entry → ℕ → Scene → ℕ → Type 0
-IsAtPlace all place s k = (x : Entry) × (slice_get all place ≡ Some x) × (x.position ≡ s) × (x.pushes ≡ k)
+abbrev pub IsFoundAt : List Entry → ℕ → Scene → ℕ → Type 0
+IsFoundAt all place s k = (x : Entry) × (slice_get all place ≡ Some x) × (x.position ≡ s) × (x.pushes ≡ k)
 
 -- the position that is expanded is at its place, found with as many pushes, and open with a least total of at most
 -- `reach`
@@ -115,22 +115,22 @@ HasLeastAt old place least new =
 
 -- the search has the position that is expanded at its place
 pub record IsExpanding (board : Board) (cap : Option ℕ) (v : VisitedView) (from : Expanded) : Type 0 where
-  pub searched : IsSearched board cap v
-  pub at_place : IsAtPlace v.entries from.place from.position from.pushes
+  pub searched : IsSearchOnBoard board cap v
+  pub at_place : IsFoundAt v.entries from.place from.position from.pushes
   pub few : suc from.pushes < 2 ^ 32
 
 -- an expansion of a position with k pushes has gone on: each position keeps its place, and only entries with more
 -- pushes change
 pub record Widens (board : Board) (cap : Option ℕ) (k : ℕ) (old new : VisitedView) : Type 0 where
-  pub searched : IsSearched board cap new
+  pub searched : IsSearchOnBoard board cap new
   pub still : KeepPlaces old.entries new.entries
   pub below : StayBelow (suc k) old.entries new.entries
-  pub goes_on : GoesOn old.entries new.entries
+  pub goes_on : GetsOn old.entries new.entries
 
--- the lesser of a number, if there is one, and a total
-abbrev pub lesser : Option ℕ → ℕ → Option ℕ
-lesser None total = Some total
-lesser (Some next) total = Some (min next total)
+-- the lesser_total of a number, if there is one, and a total
+abbrev pub lesser_total : Option ℕ → ℕ → Option ℕ
+lesser_total None total = Some total
+lesser_total (Some next) total = Some (min next total)
 
 -- a cap that allows exactly the numbers below `next` that the cap allows, where `next` is above 0
 abbrev pub tighter : Option ℕ → Option ℕ → Option ℕ
@@ -154,8 +154,8 @@ Expands board cap Kept k s = (most : ℕ) → Allows cap most → Keeps board mo
 
 -- a push after k pushes is done with: where a play that the cap allows goes on with it and ends solved, some position
 -- is kept from which one ends solved with no more pushes
-abbrev pub IsTaken : Board → Option ℕ → (Scene → Type 0) → ℕ → Scene → Push → Type 0
-IsTaken board cap Kept k s p = (m : ℕ) → Allows cap (k + suc m) → SolvableWithin board m (after_push board s p) →
+abbrev pub IsPushDone : Board → Option ℕ → (Scene → Type 0) → ℕ → Scene → Push → Type 0
+IsPushDone board cap Kept k s p = (m : ℕ) → Allows cap (k + suc m) → SolvableWithin board m (after_push board s p) →
     (t : Scene) × Kept t × SolvableWithin board m t
 
 -- the push is to be tried: any is, or with `only` those of the boxes that are held
@@ -163,9 +163,9 @@ abbrev pub IsChosen : Bool → List ℕ → Push → Type 0
 IsChosen only held p = IsTrue only → has_bit held p.square ≡ true
 
 -- of the first pushes, those that are to be tried are done with
-abbrev pub AreTaken : Board → Option ℕ → (Scene → Type 0) → (Push → Type 0) → ℕ → Scene → List Push → ℕ → Type 0
-AreTaken board cap Kept Tried k s pushes count =
-    (i : ℕ) (p : Push) → i < count → slice_get pushes i ≡ Some p → Tried p → IsTaken board cap Kept k s p
+abbrev pub ArePushesDone : Board → Option ℕ → (Scene → Type 0) → (Push → Type 0) → ℕ → Scene → List Push → ℕ → Type 0
+ArePushesDone board cap Kept Tried k s pushes count =
+    (i : ℕ) (p : Push) → i < count → slice_get pushes i ≡ Some p → Tried p → IsPushDone board cap Kept k s p
 
 -- the position can be expanded: it fits the level, and one more push can be counted
 pub record IsExpandable (board : Board) (from : Expanded) : Type 0 where
@@ -203,7 +203,7 @@ pub record IsExpansion (board : Board) (cap : Option ℕ) (from : Expanded) (ope
 -- the first of the opened positions were found with at most k pushes
 abbrev pub AreEntered : List Entry → List Opened → ℕ → ℕ → Type 0
 AreEntered all opened k count = (i : ℕ) (o : Opened) → i < count → slice_get opened i ≡ Some o →
-    IsFound all k o.position
+    IsFoundWithin all k o.position
 
 -- the numbers of an expansion fit their types, with one more push
 pub record FitsTypes (from : Expanded) : Type 0 where
@@ -211,7 +211,7 @@ pub record FitsTypes (from : Expanded) : Type 0 where
   pub reach : from.reach < 2 ^ 32
 
 -- the position can be expanded, and is not solved
-pub record IsReady (board : Board) (from : Expanded) : Type 0 where
+pub record MayBeExpanded (board : Board) (from : Expanded) : Type 0 where
   pub expandable : IsExpandable board from
   pub range : FitsTypes from
   pub unsolved : ¬ (IsSolved board from.position)

@@ -9,7 +9,7 @@ use Rattle.grid.specs.States.{FitsLevel}
 use Rattle.area.specs.Pushes.{CanPush}
 use Rattle.prices.specs.Solving.{SolvableWithin}
 use Rattle.prover.specs.Fewest.{NoneHasFewer}
-use Rattle.prover.specs.Frontier.{IsFound}
+use Rattle.prover.specs.Frontier.{IsFoundWithin}
 use Rattle.successors.specs.Distances.{AreDistinct}
 use Rattle.successors.specs.Expansion.{after_push}
 use Rattle.store.specs.Visited.{Entry, VisitedView}
@@ -27,16 +27,17 @@ pub record IsReachedState (board : Board) (most : ℕ) (x : Entry) : Type 0 wher
   pub few : x.pushes ≤ most
 
 -- after k pushes and one more, no play solves the level with at most `most` pushes in all, or the state is listed
-abbrev pub IsKept : Board → ℕ → List Entry → ℕ → Scene → Push → Type 0
-IsKept board most all k s p = (m : ℕ) → k + suc m ≡ most → SolvableWithin board m (after_push board s p) →
-    IsFound all (suc k) (after_push board s p)
+abbrev pub IsListedOrLost : Board → ℕ → List Entry → ℕ → Scene → Push → Type 0
+IsListedOrLost board most all k s p = (m : ℕ) → k + suc m ≡ most → SolvableWithin board m (after_push board s p) →
+    IsFoundWithin all (suc k) (after_push board s p)
 
 -- so it is after each push that is possible in the listed state
 abbrev pub KeepsEach : Board → ℕ → List Entry → Entry → Type 0
-KeepsEach board most all x = (p : Push) → CanPush board x.position p → IsKept board most all x.pushes x.position p
+KeepsEach board most all x = (p : Push) → CanPush board x.position p →
+    IsListedOrLost board most all x.pushes x.position p
 
 -- the states are listed by their pushes, from the start on, and the first `done` of them are expanded
-pub record AreListed (board : Board) (most done : ℕ) (all : List Entry) : Type 0 where
+pub record AreStatesListed (board : Board) (most done : ℕ) (all : List Entry) : Type 0 where
   pub begun : (x : Entry) × (slice_get all 0 ≡ Some x) × (x.position ≡ start board) × (x.pushes ≡ 0)
   pub each : (i : ℕ) (x : Entry) → slice_get all i ≡ Some x → IsReachedState board most x
   pub sorted : (i j : ℕ) (x y : Entry) → i ≤ j → slice_get all i ≡ Some x → slice_get all j ≡ Some y →
@@ -47,7 +48,7 @@ pub record AreListed (board : Board) (most done : ℕ) (all : List Entry) : Type
 
 -- a list for states of the board's size, of which the first `done` are expanded
 pub record IsStateList (board : Board) (most done : ℕ) (v : VisitedView) : Type 0 where
-  pub listed : AreListed board most done v.entries
+  pub listed : AreStatesListed board most done v.entries
   pub boxes : v.boxes ≡ box_count board
   pub squares : v.squares ≡ length board.cells
 
@@ -58,7 +59,7 @@ EndsListing board most limit v false = (done : ℕ) × IsStateList board most do
 
 -- the entry is new, or its state is listed with no more pushes and nothing changes
 abbrev pub Lists : List Entry → List Entry → Entry → Type 0
-Lists old new e = ((new ≡ old) × IsFound old e.pushes e.position) ⊎ (new ≡ old ++ e ∷ [])
+Lists old new e = ((new ≡ old) × IsFoundWithin old e.pushes e.position) ⊎ (new ≡ old ++ e ∷ [])
 
 -- so it is with a state after `pushes` pushes, if there is one
 abbrev pub ListsIf : List Entry → List Entry → ℕ → Option Scene → Type 0
@@ -72,13 +73,13 @@ IsAfter board left s p None = ¬ (SolvableWithin board left (after_push board s 
 IsAfter board left s p (Some t) = (t ≡ after_push board s p) × FitsLevel board t
 
 -- the entry at the place has this state and number of pushes
-abbrev pub IsAtPlace : List Entry → ℕ → Scene → ℕ → Type 0
-IsAtPlace all place s k = (x : Entry) × (slice_get all place ≡ Some x) × (x.position ≡ s) × (x.pushes ≡ k)
+abbrev pub IsEntryAt : List Entry → ℕ → Scene → ℕ → Type 0
+IsEntryAt all place s k = (x : Entry) × (slice_get all place ≡ Some x) × (x.position ≡ s) × (x.pushes ≡ k)
 
 -- of the first pushes, each is kept
-abbrev pub AreKept : Board → ℕ → List Entry → ℕ → Scene → List Push → ℕ → Type 0
-AreKept board most all k s pushes count =
-    (i : ℕ) (p : Push) → i < count → slice_get pushes i ≡ Some p → IsKept board most all k s p
+abbrev pub ArePushesKept : Board → ℕ → List Entry → ℕ → Scene → List Push → ℕ → Type 0
+ArePushesKept board most all k s pushes count =
+    (i : ℕ) (p : Push) → i < count → slice_get pushes i ≡ Some p → IsListedOrLost board most all k s p
 
 -- a level, the fewest pushes of its solutions, and the listed states
 pub record StatesView : Type 0 where
@@ -87,8 +88,8 @@ pub record StatesView : Type 0 where
   pub entries : List Entry
 
 -- all states are expanded, each is listed once, and no solution has fewer pushes than `most`
-pub record AreAll (v : StatesView) : Type 0 where
-  pub listed : AreListed v.board v.most (length v.entries) v.entries
+pub record AreAllExpanded (v : StatesView) : Type 0 where
+  pub listed : AreStatesListed v.board v.most (length v.entries) v.entries
   pub distinct : AreDistinct (map (λ (x : Entry). x.position) v.entries)
   pub fewest : NoneHasFewer v.board v.most
   pub range : v.most < 4294967296

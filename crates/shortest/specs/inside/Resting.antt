@@ -9,7 +9,7 @@ use Rattle.area.specs.Pushes.{CanPush}
 use Rattle.prices.specs.Solving.{SolvableWithin}
 use Rattle.successors.specs.Expansion.{after_push}
 use Rattle.store.specs.Visited.{Entry}
-use Rattle.shortest.specs.inside.Listing.{IsAtPlace, StatesView}
+use Rattle.shortest.specs.inside.Listing.{IsEntryAt, StatesView}
 use Rattle.shortest.specs.inside.Walking.{IsWalkLength}
 use Rattle.shortest.specs.declared.ways.Way.{Way}
 
@@ -43,7 +43,7 @@ pub record AreRests (board : Board) (most place : ℕ) (all : List Entry) (rests
 -- the state with k pushes is listed, is not one of the last, and the fewest moves of the states behind it are known
 pub record IsOnward (v : StatesView) (rests : List (Option ℕ)) (k : ℕ) (s : Scene) : Type 0 where
   pub place : ℕ
-  pub at_place : IsAtPlace v.entries place s k
+  pub at_place : IsEntryAt v.entries place s k
   pub known : AreRests v.board v.most (suc place) v.entries rests
   pub fewer : k < v.most
 
@@ -54,7 +54,7 @@ IsLeastBy board m s p moves = (ds : List Dir) (ps : List Push) (t : Scene) → P
     IsSolved board t → length ps ≤ m → IsAtMost moves (length ds)
 
 -- the state after a push of a state with k pushes has the place, and this is the fewest moves from it on
-pub record LeadsOn (board : Board) (all : List Entry) (rests : List (Option ℕ)) (k : ℕ) (s : Scene) (p : Push)
+pub record LeadsToEnd (board : Board) (all : List Entry) (rests : List (Option ℕ)) (k : ℕ) (s : Scene) (p : Push)
     (place rest : ℕ) : Type 0 where
   pub entry : Entry
   pub at : slice_get all place ≡ Some entry
@@ -68,7 +68,7 @@ pub record IsWay (board : Board) (all : List Entry) (rests : List (Option ℕ)) 
     pub walk : ℕ
     pub rest : ℕ
     pub possible : CanPush board s way.push
-    pub leads : LeadsOn board all rests k s way.push way.place rest
+    pub leads : LeadsToEnd board all rests k s way.push way.place rest
     pub walked : IsWalkLength board s (next board way.push.square (opposite way.push.dir)) walk
     pub short : walk < 4294967296
     pub moves : way.moves ≡ walk + 1 + rest

@@ -19,7 +19,7 @@ abbrev pub AreWalkLengths : Board → Scene → List ℕ → Type 0
 AreWalkLengths board s lengths = (q : ℕ) → Area board s q → IsWalkLength board s q (slice_index lengths q)
 
 -- the lengths have the size of the board, and if they are measured they are those of the state
-pub record IsReady (board : Board) (s : Scene) (walks : Walks) : Type 0 where
+pub record HasLengths (board : Board) (s : Scene) (walks : Walks) : Type 0 where
   pub room : length walks.lengths.items ≡ length board.cells
   pub measured : walks.measured ≡ true → AreWalkLengths board s walks.lengths.items
 
@@ -45,7 +45,7 @@ pub record AreLengths (board : Board) (s : Scene) (r most : ℕ) (lengths : List
   pub closed : (q : ℕ) (d : Dir) → q < length lengths → slice_index lengths q < r → IsNear board s lengths q d
 
 -- r rounds have reached all squares within r steps
-pub record IsRound (board : Board) (s : Scene) (r : ℕ) (marks : List ℕ) : Type 0 where
+pub record IsWalkRound (board : Board) (s : Scene) (r : ℕ) (marks : List ℕ) : Type 0 where
   pub lengths : AreLengths board s r r marks
   pub count : r + unreached marks ≤ length marks
 
@@ -59,7 +59,7 @@ pub record IsInRound (board : Board) (s : Scene) (r i k : ℕ) (any : Bool) (mar
   pub fewer : any ≡ true → suc r + unreached marks ≤ length marks
 
 -- a look at a square: it gets the number of steps if it is free and not reached yet
-abbrev pub IsLook : Board → Scene → ℕ → ℕ → List ℕ → List ℕ → Bool → Type 0
-IsLook board s n steps old new true =
+abbrev pub IsWalkLook : Board → Scene → ℕ → ℕ → List ℕ → List ℕ → Bool → Type 0
+IsWalkLook board s n steps old new true =
     IsFree board s.boxes n × (slice_index old n ≡ UNREACHED) × (new ≡ slice_set old n steps)
-IsLook board s n steps old new false = (new ≡ old) × (IsFree board s.boxes n → slice_index old n ≢ UNREACHED)
+IsWalkLook board s n steps old new false = (new ≡ old) × (IsFree board s.boxes n → slice_index old n ≢ UNREACHED)

@@ -3,7 +3,7 @@ use Rattle.std.specs.Prelude.{◌≡◌, ℕ, Bool, List, Option, Result, Ok, Er
 use Rattle.grid.specs.Board.{Board}
 use Rattle.grid.specs.declared.fault.LevelFault.{LevelFault}
 use Rattle.sokopar.specs.Collection.{AreReported, BeginsListing, IsFinding, Reported, reported_line, reported_lines}
-use Rattle.sokopar.specs.Listing.{Listed, IsListing}
+use Rattle.sokopar.specs.Listing.{Listed, IsLevelListing}
 use Rattle.sokopar.specs.declared.finding.Finding.{Finding}
 use Rattle.sokopar.specs.declared.totals.Totals.{Totals}
 use Rattle.sokopar.specs.inside.Totals.{counted, totals_of}
@@ -60,7 +60,7 @@ SendsLevel wanted cap limit n level totals old new (Err OutOfMemory) = new ≡ o
 pub record SendsLevels (wanted : Bool) (cap : Option ℕ) (limit from to : ℕ) (bytes : List ℕ) (totals : Totals)
     (old new : Seen) : Type 0 where
   pub listing : List Listed
-  pub lists : IsListing bytes listing
+  pub lists : IsLevelListing bytes listing
   pub begins : BeginsListing bytes listing
   pub reported : List Reported
   pub right : AreReported wanted cap limit from to listing reported

@@ -28,7 +28,7 @@ counted totals finding = record {
 }
 
 -- no number is greater than the number of levels of a file
-pub record AreFew (totals : Totals) : Type 0 where
+pub record AreFewLevels (totals : Totals) : Type 0 where
   pub levels : totals.levels ≤ MAX_FILE
   pub optimal : totals.optimal ≤ MAX_FILE
   pub unsolved : totals.unsolved ≤ MAX_FILE

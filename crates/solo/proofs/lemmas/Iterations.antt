@@ -11,11 +11,11 @@ use Rattle.successors.specs.Reaching.{IsLayerOf}
 use Rattle.layers.specs.LayerView.{LayerView}
 use Rattle.layers.specs.BookView.{BookView, IsLawfulBook}
 use Rattle.successors.specs.Distances.{IsAtDistance}
-use Rattle.layers.specs.Books.{AreAllShares, IsJoinOf, IsNew, MayBegin, with_begun}
+use Rattle.layers.specs.Books.{AreAllShares, IsJoinOf, IsNewBook, MayBegin, with_begun}
 use Rattle.layers.proofs.lemmas.Shares.{closed_upto}
 use Rattle.solo.specs.Answers.{IsAnswer}
-use Rattle.solo.specs.inside.Searched.{IsNextLayer, IsLookedAt, SearchView, new_search, places_of, with_layer}
-use Rattle.solo.specs.inside.Iterations.{AreBetweenLayers, AreDealt, AreWorkingOn, HaveBegun, HaveChanged, IsDealt, IsWorkingOn}
+use Rattle.solo.specs.inside.Searched.{IsNextLayer, IsLookedAt, SearchView, new_search, places_by_layer, with_layer}
+use Rattle.solo.specs.inside.Iterations.{AreBetweenLayers, AreDealt, AreWorkingOn, HaveBegun, HaveChanged, IsDealtBook, IsWorkingOn}
 use Rattle.solo.specs.inside.Rests.{HasClosed}
 use Rattle.solo.specs.declared.answer.Answer.TheVariants.{Limit}
 use Rattle.solo.proofs.ReadingBack.{trail_long}
@@ -42,7 +42,7 @@ none_looked task limit = record {
 
 -- new books are before the first iteration
 pub first_iteration : (task : Task) (limit workers shares : ℕ) (books : List BookView) → length books ≡ shares →
-    ((i : ℕ) (v : BookView) → slice_get books i ≡ Some v → IsNew task limit workers i shares v) →
+    ((i : ℕ) (v : BookView) → slice_get books i ≡ Some v → IsNewBook task limit workers i shares v) →
     AreBetweenLayers (new_search task limit) workers shares books
 first_iteration task limit workers shares books all new = record {
   dealt = record { all = all; each = λ i v at. (new i v at).made_with };
@@ -88,7 +88,7 @@ pub at_work : (s : SearchView) (workers shares : ℕ) (books after : List BookVi
 at_work s workers shares books after ranks layer between next begun = (
   record {
     all = begun.0 ∙ between.dealt.all;
-    each = λ i w at. (let b = from i w at in subst (IsDealt s.task s.limit workers shares i) (sym b.2) (between.dealt.each i b.0 b.1));
+    each = λ i w at. (let b = from i w at in subst (IsDealtBook s.task s.limit workers shares i) (sym b.2) (between.dealt.each i b.0 b.1));
   },
   λ i w at. (let b = from i w at in subst (IsWorkingOn layer) (sym b.2) (working i b.0 b.1)),
 )
@@ -115,11 +115,11 @@ goes_on s workers shares before after layer next dealt working closed = record {
   paused = λ i w at. ((through i w at).1, (through i w at).2);
 }
   where
-    through : (i : ℕ) (w : BookView) → slice_get after i ≡ Some w → IsDealt s.task s.limit workers shares i w × (w.begun ≡ false)
+    through : (i : ℕ) (w : BookView) → slice_get after i ≡ Some w → IsDealtBook s.task s.limit workers shares i w × (w.begun ≡ false)
         × (length w.closed ≡ suc (length (s.trail ++ layer.origins ∷ [])))
     through i w at =
         let (v, there, (report, (all, (es, sorted, is, number, count)))) = back_to HasClosed before after closed i w at in
-        subst (λ x. IsDealt s.task s.limit workers shares i x × (x.begun ≡ false) × (length x.closed ≡ suc (length (s.trail ++ layer.origins ∷ [])))) (sym is) (
+        subst (λ x. IsDealtBook s.task s.limit workers shares i x × (x.begun ≡ false) × (length x.closed ≡ suc (length (s.trail ++ layer.origins ∷ [])))) (sym is) (
           dealt.each i v there,
           refl,
           omega (arith, length-append v.closed (es ∷ []), (working i v there).1, next.1, length-append s.trail (layer.origins ∷ [])),
@@ -132,9 +132,9 @@ over_limit task limit positions trail book looked lawful level same over long =
     let layers = looked.layers in
     let p = (lawful.over over).0 in
     let searched = looked.searched in
-    let lists : length (places_of layers) ≡ length book.closed = length-map layers (λ (x : LayerView). x.places) ∙ trail_long task layers trail looked.trailed
+    let lists : length (places_by_layer layers) ≡ length book.closed = length-map layers (λ (x : LayerView). x.places) ∙ trail_long task layers trail looked.trailed
     ∙ sym long in record {
-      layers = places_of layers;
+      layers = places_by_layer layers;
       are = searched.are;
       more = p.places;
       distinct = p.distinct;
@@ -143,7 +143,7 @@ over_limit task limit positions trail book looked lawful level same over long =
         arith,
         same,
         p.passed,
-        closed_upto book lawful (places_of layers) (λ j xs at. subst (λ b. IsLayerOf b j xs) (sym level) (searched.are j xs at)) (omega (arith, lists)),
+        closed_upto book lawful (places_by_layer layers) (λ j xs at. subst (λ b. IsLayerOf b j xs) (sym level) (searched.are j xs at)) (omega (arith, lists)),
       );
-      unsolved = searched_bound task (places_of layers) (subst (λ (t : Task). IsLevel t.board) level lawful.level) searched;
+      unsolved = searched_bound task (places_by_layer layers) (subst (λ (t : Task). IsLevel t.board) level lawful.level) searched;
     }

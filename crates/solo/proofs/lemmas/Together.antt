@@ -13,7 +13,7 @@ use Rattle.layers.specs.Books.{AreAllShares}
 use Rattle.layers.specs.Holding.{all_held}
 use Rattle.layers.proofs.lemmas.Holdings.{held_all}
 use Rattle.solo.specs.Answers.{IsAnswer}
-use Rattle.solo.specs.inside.Searched.{IsNextLayer, IsExamined, IsLookedAt, SearchView, places_of}
+use Rattle.solo.specs.inside.Searched.{IsNextLayer, IsExamined, IsLookedAt, SearchView, places_by_layer}
 use Rattle.solo.specs.inside.Iterations.{AreDealt, AreWorkingOn}
 use Rattle.solo.specs.inside.Together.{AreStill, IsStill, PassTogether}
 use Rattle.solo.specs.declared.answer.Answer.TheVariants.{Limit}
@@ -29,18 +29,18 @@ pub more_limit : (task : Task) (limit positions : ℕ) (trail : List (List (Orig
 more_limit task limit positions trail books all looked lawful level long more =
     let layers = looked.layers in
     let searched = looked.searched in
-    let lists : length (places_of layers) ≡ length all.first.closed = length-map layers (λ (x : LayerView). x.places)
+    let lists : length (places_by_layer layers) ≡ length all.first.closed = length-map layers (λ (x : LayerView). x.places)
     ∙ trail_long task layers trail looked.trailed ∙ sym long in
-    let are : AreLayersOf all.first.level (places_of layers) = λ j xs at. subst (λ b. IsLayerOf b j xs) (sym level) (searched.are j xs at) in
-    let h = held_all books all lawful (places_of layers) are lists in
+    let are : AreLayersOf all.first.level (places_by_layer layers) = λ j xs at. subst (λ b. IsLayerOf b j xs) (sym level) (searched.are j xs at) in
+    let h = held_all books all lawful (places_by_layer layers) are lists in
     record {
-      layers = places_of layers;
+      layers = places_by_layer layers;
       are = searched.are;
       more = h.1.places;
       distinct = h.1.distinct;
       next = λ n i. subst (λ k. IsAtDistance task n k) (sym lists) (subst (λ b. IsAtDistance b n (length all.first.closed)) level (h.1.away n i));
       passed = omega (arith, more, h.2, h.1.count);
-      unsolved = searched_bound task (places_of layers) (subst (λ (t : Task). IsLevel t.board) level (lawful 0 all.first all.head).level) searched;
+      unsolved = searched_bound task (places_by_layer layers) (subst (λ (t : Task). IsLevel t.board) level (lawful 0 all.first all.head).level) searched;
     }
 
 -- books that are dealt and at work on one layer are all the shares

@@ -13,14 +13,14 @@ use Rattle.solo.specs.inside.Searched.{SearchView}
 -- ---- the books of a search
 
 -- the book is a share of the level, made with these numbers
-abbrev pub IsDealt : Task → ℕ → ℕ → ℕ → ℕ → BookView → Type 0
-IsDealt task limit workers shares share v =
+abbrev pub IsDealtBook : Task → ℕ → ℕ → ℕ → ℕ → BookView → Type 0
+IsDealtBook task limit workers shares share v =
     (v.level ≡ task) × (v.limit ≡ limit) × (v.workers ≡ workers) × (v.share ≡ share) × (v.shares ≡ shares)
 
 -- the books are all the shares of the level in order, made with these numbers
 pub record AreDealt (task : Task) (limit workers shares : ℕ) (books : List BookView) : Type 0 where
   pub all : length books ≡ shares
-  pub each : (i : ℕ) (v : BookView) → slice_get books i ≡ Some v → IsDealt task limit workers shares i v
+  pub each : (i : ℕ) (v : BookView) → slice_get books i ≡ Some v → IsDealtBook task limit workers shares i v
 
 -- each of the books has closed this number of layers, and has not begun the last one
 abbrev pub ArePaused : ℕ → List BookView → Type 0
@@ -103,7 +103,7 @@ abbrev pub AreDoneBut : BookView → ℕ → Type 0
 AreDoneBut book rank = (r : ℕ) → slice_index_or book.claimed r false ≡ true → IsDone book r ⊎ (r ≡ rank)
 
 -- the parcel is of the one rank that is claimed and not done
-pub record IsDue (before : BookView) (layer : LayerView) (book : BookView) (parcel : ParcelView) : Type 0 where
+pub record IsOnlyClaimed (before : BookView) (layer : LayerView) (book : BookView) (parcel : ParcelView) : Type 0 where
   pub still : IsStillAt before layer book
   pub of : IsOfRank layer parcel.rank parcel
   pub free : slice_get book.done parcel.rank ≡ Some false

@@ -15,8 +15,8 @@ pub record AreSearched (task : Task) (layers : List (List Scene)) : Type 0 where
   pub unsolved : (j : ℕ) (xs : List Scene) → slice_get layers j ≡ Some xs → AreUnsolved task.board xs
 
 -- the positions of each of the layers
-abbrev pub places_of : List LayerView → List (List Scene)
-places_of layers = map (λ layer. layer.places) layers
+abbrev pub places_by_layer : List LayerView → List (List Scene)
+places_by_layer layers = map (λ layer. layer.places) layers
 
 -- the first layers of the level, and for each the origins of its positions
 pub record AreTrailed (task : Task) (layers : List LayerView) (trail : List (List (Origin Push))) : Type 0 where
@@ -35,8 +35,8 @@ pub record IsNextOf (trail : List (List (Origin Push))) (layer : LayerView) : Ty
 pub record IsLookedAt (task : Task) (limit : ℕ) (trail : List (List (Origin Push))) (positions : ℕ) : Type 0 where
   pub layers : List LayerView
   pub trailed : AreTrailed task layers trail
-  pub searched : AreSearched task (places_of layers)
-  pub count : positions ≡ total (places_of layers)
+  pub searched : AreSearched task (places_by_layer layers)
+  pub count : positions ≡ total (places_by_layer layers)
   pub within : positions ≤ limit
 
 -- ---- the state of a search

@@ -8,8 +8,8 @@ use Rattle.layers.specs.Events.{AreMadeAlike}
 use Rattle.solo.specs.inside.Iterations.{HaveChanged}
 
 -- the book is over, or holds more than most positions
-abbrev pub IsFull : ℕ → BookView → Type 0
-IsFull most book = (book.over ≡ true) ⊎ (most < held book)
+abbrev pub IsFullBook : ℕ → BookView → Type 0
+IsFullBook most book = (book.over ≡ true) ⊎ (most < held book)
 
 -- one of the books is over
 abbrev pub IsOneOver : List BookView → Type 0

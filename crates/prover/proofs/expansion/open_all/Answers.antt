@@ -10,7 +10,7 @@ use Rattle.corrals.specs.Corrals.{IsClosure}
 use Rattle.corrals.specs.Sets.{SetsView}
 use Rattle.prices.specs.Helping.{SlackView}
 use Rattle.prices.specs.Solving.{Allows}
-use Rattle.prover.specs.inside.Working.{AreTaken, IsChosen, IsOpenedPosition, tighter}
+use Rattle.prover.specs.inside.Working.{ArePushesDone, IsChosen, IsOpenedPosition, tighter}
 use Rattle.prover.proofs.Deferring.{loosened}
 use Rattle.prover.proofs.Steps.{are_taken_less, chosen_suffice, expands_by, read_push, taken_more}
 use Rattle.prover.proofs.expansion.open_all.Goals as goal
@@ -65,8 +65,8 @@ loop-index-preserved c =
       same = kept.0 ∙ was.same;
       corral = kept.1 ∙ was.corral;
       each = now.opens.each was.each;
-      taken = subst (λ (v : SetsView). AreTaken board lower after (IsChosen only v.held) k s workspace.expander.pushes (c.loop-index.index + 1)) (sym kept.1)
-          (subst (λ (v : ExpanderView). AreTaken board lower after (IsChosen only held) k s v.pushes (c.loop-index.index + 1)) (sym kept.0) taken);
+      taken = subst (λ (v : SetsView). ArePushesDone board lower after (IsChosen only v.held) k s workspace.expander.pushes (c.loop-index.index + 1)) (sym kept.1)
+          (subst (λ (v : ExpanderView). ArePushesDone board lower after (IsChosen only held) k s v.pushes (c.loop-index.index + 1)) (sym kept.0) taken);
       later = now.defers.later was.later;
     }
 

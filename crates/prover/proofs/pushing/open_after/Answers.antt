@@ -5,7 +5,7 @@ use Rattle.successors.specs.Expansion.{after_push}
 use Rattle.successors.specs.Tasks.{Task}
 use Rattle.prover.specs.declared.pushing.Opened.{Opened}
 use Rattle.prover.specs.Frontier.{IsBound, IsTotal, NoneGoesOn}
-use Rattle.prover.specs.inside.Working.{IsOpenedPosition, IsTaken, tighter}
+use Rattle.prover.specs.inside.Working.{IsOpenedPosition, IsPushDone, tighter}
 use Rattle.prover.proofs.Deferring.{defers_one, loosened}
 use Rattle.prover.proofs.Steps.{listed_last, opens_one, taken_found, taken_later, taken_less, taken_none}
 use Rattle.prover.proofs.pushing.open_after.Goals as goal
@@ -40,7 +40,7 @@ returns-then-total-from-clause-taken c =
     let made : IsNorm board (after_push board s p) n × FitsLevel board n =
     subst (λ (t : Task). IsNorm t.board (after_push t.board s p) n × FitsLevel t.board n) c.requires.task c.in-Some.ensures.made in
     let one : k + 1 ≡ suc k = omega arith in
-    subst (λ (o : Option ℕ). IsTaken board (tighter cap o) (IsOpenedPosition c.args.workspace.now.opened.items) k s p) (sym c.lesser-workspace.ensures)
+    subst (λ (o : Option ℕ). IsPushDone board (tighter cap o) (IsOpenedPosition c.args.workspace.now.opened.items) k s p) (sym c.lesser-workspace.ensures)
     (taken_later board cap (IsOpenedPosition c.args.workspace.now.opened.items) k total s n p c.args.workspace.now.next scene c.requires.possible made.0
     (subst (λ (j : ℕ). IsBound board j n total) one c.in-Some-allowed_total.ensures.total.bound))
 

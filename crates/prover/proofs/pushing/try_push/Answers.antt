@@ -1,6 +1,6 @@
 use Rattle.std.proofs.Common.{◌+◌, ◌<◌, ◌∙◌, ℕ, Option, suc, subst, sym, arith}
 use Rattle.std.proofs.lemmas.Bool.{ltb-true, true≢false}
-use Rattle.prover.specs.inside.Working.{IsOpenedPosition, IsTaken, lesser, tighter}
+use Rattle.prover.specs.inside.Working.{IsOpenedPosition, IsPushDone, lesser_total, tighter}
 use Rattle.prover.proofs.Deferring.{defers_one, lesser_below, loosened}
 use Rattle.prover.proofs.Steps.{below_refused, slack_never, taken_dear}
 use Rattle.prover.proofs.pushing.try_push.Goals as goal
@@ -35,8 +35,8 @@ returns-then-later-clause-taken c = λ chosen.
     let low = c.total_of-low.result in
     let fits = c.requires.expandable.fits in
     let never = slack_never c.args.slack.now board s least p c.requires.slack c.least-least.ensures in
-    subst (λ (o : Option ℕ). IsTaken board (tighter cap o) (IsOpenedPosition c.args.workspace.now.opened.items) k s p) (sym c.lesser-workspace.ensures)
-    (taken_dear board (tighter cap (lesser next low)) (IsOpenedPosition c.args.workspace.now.opened.items) k low least s p fits.scene c.requires.possible never
+    subst (λ (o : Option ℕ). IsPushDone board (tighter cap o) (IsOpenedPosition c.args.workspace.now.opened.items) k s p) (sym c.lesser-workspace.ensures)
+    (taken_dear board (tighter cap (lesser_total next low)) (IsOpenedPosition c.args.workspace.now.opened.items) k low least s p fits.scene c.requires.possible never
     c.total_of-low.ensures.most (λ m. lesser_below cap next low (k + suc m) (omega arith)))
 
 pub returns-then-later-clause-defers : goal.returns-then-later-clause-defers

@@ -2,7 +2,7 @@ use Rattle.std.proofs.Common.{◌≡◌, ◌∙◌, ℕ, Some, suc, sym, subst, 
 use Rattle.std.proofs.lemmas.Option.{slice_get_within}
 use Rattle.std.specs.Prelude.{slice_get}
 use Rattle.grid.specs.Board.{Scene, IsSolved}
-use Rattle.prover.specs.Frontier.{IsFound}
+use Rattle.prover.specs.Frontier.{IsFoundWithin}
 use Rattle.prover.specs.inside.Working.{Expands, tighter}
 use Rattle.prover.proofs.Steps.{expands_found, goes_expanded, on_ok_so, turns_expanded, under_way_expanded}
 use Rattle.prover.proofs.recording.enter.Goals as goal
@@ -41,8 +41,8 @@ returns-clause-searched c =
     on_ok_so c.set_least.result (λ has. record {
       under_way = under_way_expanded board cap middle c.set_least.new.self.entries place c.args.from.now.reach x next now.widens.searched.under_way there
           (omega (arith, near, within)) (subst (λ (s : Scene). ¬ (IsSolved board s)) position c.requires.ready.unsolved) c.requires.expansion.later
-          (subst (λ (j : ℕ). Expands board (tighter cap next) (IsFound middle (suc j)) j x.position) pushes
-          (subst (λ (s : Scene). Expands board (tighter cap next) (IsFound middle (suc k)) k s) position expands)) has;
+          (subst (λ (j : ℕ). Expands board (tighter cap next) (IsFoundWithin middle (suc j)) j x.position) pushes
+          (subst (λ (s : Scene). Expands board (tighter cap next) (IsFoundWithin middle (suc k)) k s) position expands)) has;
       boxes = c.set_least.ensures.size.0 ∙ now.widens.searched.boxes;
       squares = c.set_least.ensures.size.1 ∙ now.widens.searched.squares;
     }) c.set_least.ensures.set

@@ -1,6 +1,6 @@
 use Rattle.std.proofs.Common.{◌≡◌, ◌+◌, ◌∙◌, ℕ, suc, Some, subst, arith}
 use Rattle.store.proofs.lemmas.Fitting.{level_fits}
-use Rattle.prover.specs.Frontier.{IsFound}
+use Rattle.prover.specs.Frontier.{IsFoundWithin}
 use Rattle.prover.specs.inside.Working.{Enters, StayBelow}
 use Rattle.prover.proofs.Steps.{on_ok_so, under_way_after}
 use Rattle.prover.proofs.recording.enter_one.Goals as goal
@@ -43,5 +43,5 @@ pub returns-clause-found : goal.returns-clause-found
 returns-clause-found c =
     let k = c.args.from.now.pushes in
     let one : k + 1 ≡ suc k = omega arith in
-    on_ok_so c.open_at.result (λ enters. subst (λ (j : ℕ). IsFound c.open_at.new.self.entries j c.args.one.now.position) one enters.found)
+    on_ok_so c.open_at.result (λ enters. subst (λ (j : ℕ). IsFoundWithin c.open_at.new.self.entries j c.args.one.now.position) one enters.found)
     c.open_at.ensures.enters

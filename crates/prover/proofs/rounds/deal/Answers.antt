@@ -5,7 +5,7 @@ use Rattle.grid.specs.Board.{Board, IsSolved}
 use Rattle.store.specs.Visited.{VisitedView}
 use Rattle.successors.proofs.lemmas.Lists.{each_set}
 use Rattle.prover.specs.inside.Rounds.{IsLane}
-use Rattle.prover.specs.inside.Working.{IsSearched}
+use Rattle.prover.specs.inside.Working.{IsSearchOnBoard}
 use Rattle.prover.proofs.Dealing.{each_at, ready_by}
 use Rattle.prover.proofs.Entering.{in_range}
 use Rattle.prover.proofs.rounds.deal.Goals as goal
@@ -20,7 +20,7 @@ add-requires-clause-ready c =
     let reach = c.expanded-from.ensures.place.1 in
     let inside : c.in-Some.place < length now.entries = search rules in
     let (x, at) = in_range now.entries c.in-Some.place inside in
-    ready_by board cap now c.in-Some.place x c.expanded-from.result (subst (λ (v : VisitedView). IsSearched board cap v) same c.requires.searched)
+    ready_by board cap now c.in-Some.place x c.expanded-from.result (subst (λ (v : VisitedView). IsSearchOnBoard board cap v) same c.requires.searched)
     (omega (arith, few)) at (c.expanded-from.ensures.entry x at) (omega (arith, reach))
     (λ solved. false≢true (sym c.if-solved.false ∙ c.is_solved-solved.ensures.1
     (subst (λ (b : Board). IsSolved b c.expanded-from.result.position) (sym c.level.ensures) solved)))

@@ -3,8 +3,8 @@ use Rattle.std.proofs.lemmas.Bool.{false≢true}
 use Rattle.grid.specs.Board.{Board, Scene, IsSolved}
 use Rattle.grid.specs.Lawful.{IsLevel}
 use Rattle.store.specs.Visited.{VisitedView}
-use Rattle.prover.specs.Frontier.{AreClosed}
-use Rattle.prover.specs.inside.Working.{IsLeastOpen, IsSearched, turns_left}
+use Rattle.prover.specs.Frontier.{NoneIsOpen}
+use Rattle.prover.specs.inside.Working.{IsLeastOpen, IsSearchOnBoard, turns_left}
 use Rattle.prover.proofs.Dealing.{ready_by, waits_by}
 use Rattle.prover.proofs.Endings.{has_more, least_told, none_is_allowed, solved_told, told_more}
 use Rattle.prover.proofs.Steps.{rounds_lessen, turns_then}
@@ -15,7 +15,7 @@ returns-then-solved-clause-tells g c =
     let found : IsLeastOpen c.least_open.new.self.entries c.in-Some.place c.in-Some.least = search rules in
     let board = c.args.pruner.now.board in
     let cap = c.args.pruner.now.cap in
-    let searched = subst (λ (v : VisitedView). IsSearched board cap v) (sym c.least_open.ensures.same) c.loop-desk.invariant.searched in
+    let searched = subst (λ (v : VisitedView). IsSearchOnBoard board cap v) (sym c.least_open.ensures.same) c.loop-desk.invariant.searched in
     let level : IsLevel board = subst (λ (b : Board). IsLevel b) c.level.ensures c.tell.ensures in
     solved_told board cap c.least_open.new.self.entries c.in-Some.place c.in-Some.least level searched.under_way found
     (λ x at. subst (λ (s : Scene). IsSolved board s) (c.position.ensures x at)
@@ -27,7 +27,7 @@ returns-then-len-limit-clause-tells g c =
     let board = c.args.pruner.now.board in
     let cap = c.args.pruner.now.cap in
     let all = c.least_open.new.self.entries in
-    let searched = subst (λ (v : VisitedView). IsSearched board cap v) (sym c.least_open.ensures.same) c.loop-desk.invariant.searched in
+    let searched = subst (λ (v : VisitedView). IsSearchOnBoard board cap v) (sym c.least_open.ensures.same) c.loop-desk.invariant.searched in
     let level : IsLevel board = subst (λ (b : Board). IsLevel b) c.level.ensures c.tell.ensures in
     let many : c.args.limit < length all = search rules in (
       told_more board c.in-Some.least c.loop-desk.reach c.max-reach.result c.max-reach.ensures
@@ -37,10 +37,10 @@ returns-then-len-limit-clause-tells g c =
 
 pub returns-clause-tells : goal.returns-clause-tells
 returns-clause-tells g c =
-    let none : AreClosed c.least_open.new.self.entries = search rules in
+    let none : NoneIsOpen c.least_open.new.self.entries = search rules in
     let board = c.args.pruner.now.board in
     let cap = c.args.pruner.now.cap in
-    let searched = subst (λ (v : VisitedView). IsSearched board cap v) (sym c.least_open.ensures.same) c.loop-desk.invariant.searched in
+    let searched = subst (λ (v : VisitedView). IsSearchOnBoard board cap v) (sym c.least_open.ensures.same) c.loop-desk.invariant.searched in
     let level : IsLevel board = subst (λ (b : Board). IsLevel b) c.level.ensures c.tell.ensures in
     none_is_allowed board cap c.least_open.new.self.entries level searched.under_way none
 
@@ -59,7 +59,7 @@ expand-requires-clause-ready g c =
     let board = c.args.pruner.now.board in
     let cap = c.args.pruner.now.cap in
     let all = c.least_open.new.self.entries in
-    let searched = subst (λ (v : VisitedView). IsSearched board cap v) (sym c.least_open.ensures.same) c.loop-desk.invariant.searched in
+    let searched = subst (λ (v : VisitedView). IsSearchOnBoard board cap v) (sym c.least_open.ensures.same) c.loop-desk.invariant.searched in
     let (x, at, open_, from) = found in
     let few : length all ≤ c.args.limit = search rules in
     let reach = c.expanded-first.ensures.place.1 in
@@ -73,7 +73,7 @@ loop-desk-preserved g c =
     let found : IsLeastOpen c.least_open.new.self.entries c.in-Some.place c.in-Some.least = search rules in
     let board = c.args.pruner.now.board in
     let cap = c.args.pruner.now.cap in
-    let searched = subst (λ (v : VisitedView). IsSearched board cap v) (sym c.least_open.ensures.same) c.loop-desk.invariant.searched in
+    let searched = subst (λ (v : VisitedView). IsSearchOnBoard board cap v) (sym c.least_open.ensures.same) c.loop-desk.invariant.searched in
     let level : IsLevel board = subst (λ (b : Board). IsLevel b) c.level.ensures c.tell.ensures in
     record {
       searched = c.in_ok-expand_more.ensures.searched;

@@ -1,12 +1,12 @@
 use Rattle.std.proofs.Common.{◌≡◌, ◌+◌, length, cond, nat_lt}
 use Rattle.prover.specs.Fewest.{NoneHasFewer}
 use Rattle.prover.specs.inside.Rounds.{IsDesk}
-use Rattle.prover.specs.inside.Working.{IsSearched, turns_left}
+use Rattle.prover.specs.inside.Working.{IsSearchOnBoard, turns_left}
 use Rattle.prover.proofs.searching.run.Given as goal
 
 abbrev pub invariant-loop-desk : goal.invariant-loop-desk
 invariant-loop-desk g l = record {
-  searched : IsSearched l.pruner.board l.pruner.cap l.frontier;
+  searched : IsSearchOnBoard l.pruner.board l.pruner.cap l.frontier;
   told : NoneHasFewer l.pruner.board l.reach;
   desk : IsDesk l.pruner l.desk;
 }

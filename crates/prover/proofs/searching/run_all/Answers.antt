@@ -2,7 +2,7 @@ use Rattle.std.proofs.Common.{◌∙◌, refl, subst, sym, arith}
 use Rattle.successors.specs.Tasks.{Task}
 use Rattle.prover.specs.Fewest.{NoneHasFewer}
 use Rattle.prover.specs.inside.SearchEnds.{Tells}
-use Rattle.prover.specs.inside.Working.{IsSearched}
+use Rattle.prover.specs.inside.Working.{IsSearchOnBoard}
 use Rattle.prover.proofs.searching.run_all.Goals as goal
 
 pub loop-first-init : goal.loop-first-init
@@ -13,7 +13,7 @@ loop-first-preserved g c =
     let same = sym c.add_tables.ensures in
     record {
       same = c.add_tables.ensures ∙ c.loop-first.invariant.same;
-      searched = subst (λ (v : Task). IsSearched v.board v.cap c.run.new.frontier) same c.in_ok-end.ensures.searched;
+      searched = subst (λ (v : Task). IsSearchOnBoard v.board v.cap c.run.new.frontier) same c.in_ok-end.ensures.searched;
       told = subst (λ (v : Task). NoneHasFewer v.board c.in-Some.least) same (c.in-Some.ensures.some _ _ _ _ c.in_ok-end.ensures.tells);
     }
 

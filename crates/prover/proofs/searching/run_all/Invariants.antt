@@ -1,11 +1,11 @@
 use Rattle.std.proofs.Common.{◌≡◌}
 use Rattle.prover.specs.Fewest.{NoneHasFewer}
-use Rattle.prover.specs.inside.Working.{IsSearched}
+use Rattle.prover.specs.inside.Working.{IsSearchOnBoard}
 use Rattle.prover.proofs.searching.run_all.Given as goal
 
 abbrev pub invariant-loop-first : goal.invariant-loop-first
 invariant-loop-first g l = record {
   same : l.pruner ≡ l.fn.pruner;
-  searched : IsSearched l.pruner.board l.pruner.cap l.frontier;
+  searched : IsSearchOnBoard l.pruner.board l.pruner.cap l.frontier;
   told : NoneHasFewer l.pruner.board l.reach;
 }

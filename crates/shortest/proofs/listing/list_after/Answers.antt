@@ -4,7 +4,7 @@ use Rattle.grid.specs.States.{FitsLevel}
 use Rattle.area.specs.Pushes.{ArePushes, CanPush}
 use Rattle.successors.specs.Expanding.{ExpanderView, HasPushesOf}
 use Rattle.successors.specs.Tasks.{Task}
-use Rattle.shortest.specs.inside.Listing.{AreKept}
+use Rattle.shortest.specs.inside.Listing.{ArePushesKept}
 use Rattle.shortest.proofs.Layering.{after_fits, expanded_on, fits_at, pushed_on, read_push}
 use Rattle.shortest.proofs.listing.list_after.Goals as goal
 
@@ -65,7 +65,7 @@ loop-index-preserved c =
       same = kept ∙ was.same;
       listing = record { listed = step.0; boxes = size.0 ∙ was.listing.boxes; squares = size.1 ∙ was.listing.squares };
       at_place = step.1;
-      kept = subst (λ (v : ExpanderView). AreKept board most new.entries k s v.pushes (c.loop-index.index + 1)) (sym kept) step.2;
+      kept = subst (λ (v : ExpanderView). ArePushesKept board most new.entries k s v.pushes (c.loop-index.index + 1)) (sym kept) step.2;
     }
 
 pub list_if_some-requires-clause-fits : goal.list_if_some-requires-clause-fits

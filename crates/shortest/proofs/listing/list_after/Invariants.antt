@@ -1,6 +1,6 @@
 use Rattle.std.proofs.Common.{◌≡◌}
 use Rattle.successors.specs.Expanding.{HasPushesOf}
-use Rattle.shortest.specs.inside.Listing.{AreKept, IsAtPlace, IsStateList}
+use Rattle.shortest.specs.inside.Listing.{ArePushesKept, IsEntryAt, IsStateList}
 use Rattle.shortest.proofs.listing.list_after.Given as goal
 
 abbrev pub invariant-loop-index : goal.invariant-loop-index
@@ -9,6 +9,6 @@ invariant-loop-index l = record {
   found : HasPushesOf l.workspace.expander l.from.state;
   same : l.workspace.expander ≡ l.initial.workspace.expander;
   listing : IsStateList l.bounds.board l.bounds.most l.place l.listed;
-  at_place : IsAtPlace l.listed.entries l.place l.from.state l.from.pushes;
-  kept : AreKept l.bounds.board l.bounds.most l.listed.entries l.from.pushes l.from.state l.workspace.expander.pushes l.index;
+  at_place : IsEntryAt l.listed.entries l.place l.from.state l.from.pushes;
+  kept : ArePushesKept l.bounds.board l.bounds.most l.listed.entries l.from.pushes l.from.state l.workspace.expander.pushes l.index;
 }

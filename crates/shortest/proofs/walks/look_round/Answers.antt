@@ -1,7 +1,7 @@
 use Rattle.std.proofs.Common.{◌≡◌, ◌<◌, ℕ, suc, ◌+◌, ◌||◌, [], ◌∷◌, length, get_or, sym, subst, ◌∙◌, arith}
 use Rattle.grid.specs.declared.dir.Dir.TheVariants.{D, L, R, U}
 use Rattle.grid.proofs.lemmas.Directions.{dir_at}
-use Rattle.shortest.specs.inside.Walking.{IsInRound, IsLook}
+use Rattle.shortest.specs.inside.Walking.{IsInRound, IsWalkLook}
 use Rattle.shortest.proofs.Rounds.{looked}
 use Rattle.shortest.proofs.walks.look_round.Goals as goal
 
@@ -23,7 +23,7 @@ loop-dir-preserved c =
     let inside : i < length marks = omega (arith, long, c.requires.inside) in
     let (round, away, size) = looked board s r i k any marks (get_or (D ∷ L ∷ R ∷ U ∷ []) k D) n new b c.loop-dir.invariant.round inside
     c.loop-dir.invariant.away (dir_at k c.loop-dir-test.true) (sym c.next-next.ensures)
-    (subst (λ (m : ℕ). IsLook board s n m marks new b) more c.look-new.ensures) in
+    (subst (λ (m : ℕ). IsWalkLook board s n m marks new b) more c.look-new.ensures) in
     record {
       round = subst (λ (m : ℕ). IsInRound board s r i m (any || b) new) turn round;
       away = away;

@@ -2,7 +2,7 @@ use Rattle.std.proofs.Common.{◌≡◌, ◌∙◌, ◌+◌, ◌*◌, ◌≤◌,
 use Rattle.grid.specs.Board.{Board, next, opposite}
 use Rattle.grid.specs.States.{IsScene}
 use Rattle.area.specs.Area.{Area}
-use Rattle.shortest.specs.inside.Walking.{IsReady, IsWalkLength}
+use Rattle.shortest.specs.inside.Walking.{HasLengths, IsWalkLength}
 use Rattle.shortest.proofs.Onward.{box_inside, least_none, least_some, onward_fits, rest_small, rest_there}
 use Rattle.shortest.proofs.ways.way_by.Goals as goal
 

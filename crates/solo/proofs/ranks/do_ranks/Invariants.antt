@@ -1,10 +1,10 @@
 use Rattle.std.proofs.Common.{◌≡◌, ◌-◌, length, count_by}
-use Rattle.solo.specs.inside.Iterations.{IsDoneBy, IsDue}
+use Rattle.solo.specs.inside.Iterations.{IsDoneBy, IsOnlyClaimed}
 use Rattle.solo.proofs.ranks.do_ranks.Given as goal
 
 abbrev pub invariant-loop-book : goal.invariant-loop-book
 invariant-loop-book l = record {
-  due : IsDue l.fn.book l.layer l.book l.parcel;
+  due : IsOnlyClaimed l.fn.book l.layer l.book l.parcel;
   credited : IsDoneBy l.worker l.fn.book l.book;
   size : l.scratch.size ≡ l.fn.scratch.size;
 }

@@ -2,7 +2,7 @@ use Rattle.std.proofs.Common.{◌≡◌, ℕ, ◌+◌, ◌<◌, Bool, List, fals
 use Rattle.std.proofs.lemmas.Option.{slice_get-get_or}
 use Rattle.layers.specs.inside.BookInside.{book_view, IsSoundBook}
 use Rattle.layers.specs.BookView.{IsLawfulBook}
-use Rattle.layers.specs.Books.{ClaimAnswer, IsTaken, IsFreeRank}
+use Rattle.layers.specs.Books.{ClaimAnswer, IsClaimedOrDone, IsFreeRank}
 use Rattle.layers.proofs.lemmas.BookEvents.{lawful_claim}
 use Rattle.layers.proofs.lemmas.BookFields.{claimed-taken, marks_long}
 use Rattle.layers.proofs.book.Book.claim.Goals as goal
@@ -33,7 +33,7 @@ invariant_of-self-then-not-is_set-2 c =
       few = sound.few;
       boxes = sound.boxes;
       cuts = sound.cuts;
-      taken = subst (λ bs. (r : ℕ) → r < rank + 1 → IsTaken (record v { claimed = bs }) r) (sym c.set.ensures)
+      taken = subst (λ bs. (r : ℕ) → r < rank + 1 → IsClaimedOrDone (record v { claimed = bs }) r) (sym c.set.ensures)
           (claimed-taken v rank lt c.loop-rank.invariant.1);
     }
 
@@ -52,7 +52,7 @@ returns-then-not-is_set-2 c =
     ∙ ap (λ (b : Bool). Some b) (sym c.is_set-then-not-is_set.ensures ∙ c.if-not-is_set-2.true) in (
       c.layer-layer.ensures,
       subst (λ w. IsFreeRank w rank) e (free, undone),
-      subst (λ w. (r : ℕ) → r < rank → IsTaken w r) e c.loop-rank.invariant.1,
+      subst (λ w. (r : ℕ) → r < rank → IsClaimedOrDone w r) e c.loop-rank.invariant.1,
       ap (λ (bs : List Bool). record v { claimed = bs }) c.set.ensures
           ∙ subst (λ w. record v { claimed = set v.claimed rank true } ≡ record w { claimed = set w.claimed rank true }) e refl,
     )

@@ -5,7 +5,7 @@ use Rattle.layers.specs.BookView.{BookView}
 use Rattle.store.specs.Entries.{Closed}
 use Rattle.store.specs.FoundView.{FoundView, with_entered}
 use Rattle.layers.specs.inside.BookInside.{book_view, AreCuts, IsSoundBook}
-use Rattle.layers.specs.Books.{IsAtWork, IsTaken}
+use Rattle.layers.specs.Books.{IsAtWork, IsClaimedOrDone}
 use Rattle.store.specs.Entering.{is_wanted_in, entered}
 use Rattle.layers.proofs.Cuts.{total-cuts}
 use Rattle.layers.proofs.lemmas.Books.{begun-since, few_ranks, tally_bound}
@@ -109,7 +109,7 @@ invariant_of-self c =
       few = c.self.invariant.few;
       boxes = c.self.invariant.boxes;
       cuts = c.self.invariant.cuts;
-      taken = λ r lt. subst (λ (bs : List Bool). IsTaken (record (book_view a) { done = bs }) r) (sym c.mark.ensures.done)
+      taken = λ r lt. subst (λ (bs : List Bool). IsClaimedOrDone (record (book_view a) { done = bs }) r) (sym c.mark.ensures.done)
           (taken_done (book_view a) c.rank-rank.result r (c.self.invariant.taken r lt));
     }
 
@@ -151,7 +151,7 @@ invariant_of-self-2 c =
       few = c.self.invariant.few;
       boxes = (ap (λ (f : FoundView). f.boxes) put ∙ c.self.invariant.boxes.0, ap (λ (f : FoundView). f.squares) put ∙ c.self.invariant.boxes.1);
       cuts = subst (λ (xs : List Closed). AreCuts a.starts.items (length xs)) (sym seen) c.self.invariant.cuts;
-      taken = λ r lt. subst (λ (bs : List Bool). IsTaken (record (book_view a) { done = bs }) r) (sym c.mark-2.ensures.done)
+      taken = λ r lt. subst (λ (bs : List Bool). IsClaimedOrDone (record (book_view a) { done = bs }) r) (sym c.mark-2.ensures.done)
           (taken_done (book_view a) c.rank-rank.result r (c.self.invariant.taken r lt));
     }
 

@@ -1,6 +1,6 @@
 use Rattle.std.proofs.Common.{◌≡◌, List, ℕ, length, sym, ap, subst, ◌∙◌}
 use Rattle.grid.specs.Masks.{word_count}
-use Rattle.layers.specs.inside.Bits.{AreMarks, marks_of}
+use Rattle.layers.specs.inside.Bits.{AreRankBits, marks_of}
 use Rattle.layers.proofs.Marking.{marks_long}
 use Rattle.layers.proofs.marks.Marks.copy_from.Goals as goal
 
@@ -17,8 +17,8 @@ invariant_of-self c =
     let others = marks_long c.other.inside.words.items c.other.inside.len c.args.other.now c.other.view_is in
     let same : c.self.inside.len ≡ c.other.inside.len = own ∙ c.requires ∙ sym others in
     let words : c.copy_from_slice.new.self.items ≡ c.other.inside.words.items = c.copy_from_slice.ensures.items ∙ c.as_slice.ensures.value in
-    subst (λ (n : ℕ). AreMarks c.copy_from_slice.new.self.items n c.other.inside.set) (sym same)
-    (subst (λ (ws : List ℕ). AreMarks ws c.other.inside.len c.other.inside.set) (sym words) c.other.invariant)
+    subst (λ (n : ℕ). AreRankBits c.copy_from_slice.new.self.items n c.other.inside.set) (sym same)
+    (subst (λ (ws : List ℕ). AreRankBits ws c.other.inside.len c.other.inside.set) (sym words) c.other.invariant)
 
 pub returns : goal.returns
 returns c =

@@ -1,5 +1,5 @@
 use Rattle.std.proofs.Common.{◌≡◌, ◌+◌, List, ℕ, length, ap, subst, sym, ◌∙◌, arith, rules}
-use Rattle.layers.specs.inside.Bits.{AreMarks, marks_of}
+use Rattle.layers.specs.inside.Bits.{AreRankBits, marks_of}
 use Rattle.layers.proofs.Marking.{are_more, count_fits, enough_words, marks_more, over_words, within_marks}
 use Rattle.layers.proofs.marks.Marks.set.Goals as goal
 
@@ -19,7 +19,7 @@ invariant_of-self c =
     let a = c.self.inside in
     let long : length c.set_mark.new.words ≡ length c.as_mut_slice.result.now = search rules in
     let over = over_words a.words.len c.set_mark.new.words a.words.items a.words.ok.0 (long ∙ ap length c.as_mut_slice.ensures.value) in
-    subst (λ (ws : List ℕ). AreMarks ws a.len (a.set + 1)) (sym over)
+    subst (λ (ws : List ℕ). AreRankBits ws a.len (a.set + 1)) (sym over)
     (are_more a.words.items a.len c.args.self.now c.self.view_is a.set c.self.invariant c.args.rank c.requires c.as_mut_slice.result.now c.set_mark.new.words
     c.as_mut_slice.ensures.value c.set_mark.ensures long)
 

@@ -6,7 +6,7 @@ use Rattle.layers.specs.Books.{AllDone}
 use Rattle.layers.specs.Holding.{all_held, held}
 use Rattle.successors.specs.Tasks.{Task}
 use Rattle.solo.specs.inside.Searched.{SearchView}
-use Rattle.solo.specs.inside.Together.{AreAllDone, AreStill, IsFull, PassTogether}
+use Rattle.solo.specs.inside.Together.{AreAllDone, AreStill, IsFullBook, PassTogether}
 use Rattle.solo.specs.inside.Iterations.{AreDoneBy}
 use Rattle.solo.proofs.Counting.{IsDoneWith, all_credited, all_still, both_if_some, full_pass, next_credited, next_same, next_still}
 use Rattle.solo.proofs.Each.{HaveChangedUpTo, all_changed, none_changed, one_changed}
@@ -39,7 +39,7 @@ loop-index-preserved c =
     let index = c.loop-index.index in let d = c.index-books-index.result in let after = c.do_rest_of.new.book in
     let same = c.left_of.ensures.same in let so = c.loop-index.invariant.done in
     let at = next_same layer c.args.worker before now index so c.requires.begun books d same (omega (arith, c.loop-index-test.true)) in
-    let all : AllDone after = subst (λ within. MatchBool within (AllDone after) (IsFull (held (get_or books index d) + c.in-Some.left) after))
+    let all : AllDone after = subst (λ within. MatchBool within (AllDone after) (IsFullBook (held (get_or books index d) + c.in-Some.left) after))
     c.if-not-branch.false c.in_ok-do_rest_of.ensures.within in
     record {
       done = one_changed (IsDoneWith layer c.args.worker) before index books (get_or books index d) after
@@ -77,8 +77,8 @@ pub returns-then-not-branch-clause-passed : goal.returns-then-not-branch-clause-
 returns-then-not-branch-clause-passed c =
     let books = c.left_of.new.books in let index = c.loop-index.index in let d = c.index-books-index.result in let after = c.do_rest_of.new.book in
     let lt : index < length books = omega (arith, c.loop-index-test.true, ap length c.left_of.ensures.same, c.loop-index.invariant.done.same) in
-    let full : IsFull (held (get_or books index d) + c.in-Some.left) after = subst (λ within. MatchBool within (AllDone after)
-    (IsFull (held (get_or books index d) + c.in-Some.left) after)) c.if-not-branch.true c.in_ok-do_rest_of.ensures.within in
+    let full : IsFullBook (held (get_or books index d) + c.in-Some.left) after = subst (λ within. MatchBool within (AllDone after)
+    (IsFullBook (held (get_or books index d) + c.in-Some.left) after)) c.if-not-branch.true c.in_ok-do_rest_of.ensures.within in
     subst (λ (v : SearchView). PassTogether v.limit (set books index after)) c.self.view_is
     (full_pass c.self.inside.limit c.in-Some.left books index (get_or books index d) after c.in-Some.ensures.left c.left_of.ensures.lawful
     (slice_get-get_or books index d lt) c.in_ok-do_rest_of.ensures.lawful full)
