@@ -17,6 +17,8 @@ mod entries;
 #[cfg(test)]
 mod excesses;
 #[cfg(test)]
+mod fewest_moves;
+#[cfg(test)]
 mod floods;
 #[cfg(test)]
 mod ledgers;
