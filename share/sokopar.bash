@@ -4,20 +4,21 @@ _sokopar() {
     COMPREPLY=()
     case ${COMP_WORDS[1]} in
         check) options="--help" ;;
+        explain) options="--help" ;;
         show) options="--help" ;;
         dead) options="--help" ;;
         replay) options="--help" ;;
-        solve) options="--workers --locks --limit --max-pushes --help" ;;
-        best) options="--from --to --workers --limit --max-pushes --moves --help" ;;
-        prove) options="--workers --limit --moves --help" ;;
+        solve) options="--workers --locks --limit --max-pushes --lurd --help" ;;
+        best) options="--from --to --workers --limit --max-pushes --moves --table --lurd --progress --help" ;;
+        prove) options="--solutions --from --to --workers --limit --moves --lurd --progress --help" ;;
         *) options= ;;
     esac
     if [ "$COMP_CWORD" = 1 ]; then
-        options="check show dead replay solve best prove --help --version"
+        options="check explain show dead replay solve best prove --help --version"
         compopt +o default
     fi
     case ${COMP_WORDS[COMP_CWORD - 1]} in
-        --workers | --locks | --limit | --max-pushes | --from | --to) compopt +o default; return ;; # a number
+        --workers | --locks | --limit | --max-pushes | --from | --to | --solutions) compopt +o default; return ;; # a number
     esac
     if [ "$COMP_CWORD" = 1 ] || [[ $word == -* ]]; then
         mapfile -t COMPREPLY < <(compgen -W "$options" -- "$word")

@@ -7,6 +7,7 @@ import re
 
 MOST_ROWS = MOST_COLUMNS = 255
 MOST_BOXES = 64
+MOST_PLACES = 20
 MOST_MOVES = 1_000_000
 MOST_BYTES = 16_777_216
 MOST_NUMBER = 4_294_967_295
@@ -136,24 +137,27 @@ def moved(square, step):
 
 
 def parts_of(data):
-    """What each board of a collection is made of, in their order: its first line, its rows and its name."""
+    """What each board of a collection is made of, in their order: its first line, its rows, its name, and for each row
+    its line and whether that is plain."""
     boards, gaps, at_board = [], [[]], False
     for number, line in enumerate(lines_of(data), 1):
         rows = rows_of(line)
         if rows is None:
             gaps[-1].append(line)
-        elif at_board:
-            boards[-1][1].extend(rows)
         else:
-            boards.append((number, list(rows)))
-            gaps.append([])
+            if not at_board:
+                boards.append((number, [], []))
+                gaps.append([])
+            boards[-1][1].extend(rows)
+            boards[-1][2].extend([(number, not re.search(rb"[0-9|]", line))] * len(rows))
         at_board = rows is not None
-    return [(first, rows, name_in(gaps[place], gaps[place + 1])) for place, (first, rows) in enumerate(boards)]
+    return [(first, rows, name_in(gaps[place], gaps[place + 1]), places)
+            for place, (first, rows, places) in enumerate(boards)]
 
 
 def boards_of(data):
     """The boards of a collection in their order."""
-    return [Board(*parts) for parts in parts_of(data)]
+    return [Board(*parts[:3]) for parts in parts_of(data)]
 
 
 def letters_of(text):
@@ -219,10 +223,150 @@ def lawful(data, number):
     boards = parts_of(data)
     if number > len(boards):
         return None, (1, line(f"no level {number}"))
-    board = Board(*boards[number - 1])
+    board = Board(*boards[number - 1][:3])
     if board.fault:
         return None, (1, line(f"fault {board.fault}"))
     return board, None
+
+
+def break_of(line):
+    """The first byte of a line, from 1, at which neither an item nor a bar begins, and why."""
+    at = 0
+    while at < len(line):
+        item = ITEM.match(line, at)
+        count = COUNT.match(line, at)[0]
+        if line[at : at + 1] == b"|":
+            at += 1
+        elif item and len(count) <= 4 and (not count or int(count)):
+            at = item.end()
+        elif not count:
+            byte = line[at]
+            name = "a tab" if byte == 9 else chr(byte) if 32 < byte < 127 else f"value {byte}"
+            return f"byte {at + 1}, {name}, is no cell"
+        elif len(count) > 4:
+            return f"byte {at + 1} begins a count of too many digits"
+        else:
+            return f"byte {at + 1} begins a count {'that no cell follows' if int(count) else 'of 0'}"
+    return None
+
+
+def broken_rows(data):
+    """The lines with a wall that are no rows and no words: the number of each, and what is written of it."""
+    lines, found = lines_of(data), []
+    for number, text in enumerate(lines, 1):
+        if b"#" in text and rows_of(text) is None and not re.match(rb"[;A-Za-z]", text):
+            parts = 1 < number < len(lines) and rows_of(lines[number - 2]) and rows_of(lines[number])
+            found.append((number, line(f"line {number} has a wall and is no row: {break_of(text)}" +
+                                       ("; no other line is between two boards" if parts else ""))))
+    return found
+
+
+def frozen(board, boxes):
+    """Whether some of the boxes are frozen, not all of them on goals."""
+    held, live = set(boxes), board.live()
+
+    def is_held(square, step):
+        before, behind = moved(square, (-step[0], -step[1])), moved(square, step)
+        blocked = any(board.is_wall(beside) or beside in held for beside in (before, behind))
+        return blocked or before not in live and behind not in live
+
+    while loose := {square for square in held if not all(is_held(square, step) for step in ((0, 1), (1, 0)))}:
+        held -= loose
+    return not held <= board.goals
+
+
+def doomed(board):
+    """Why a lawful level is unsolvable from the start: how, and the squares of boxes; None where nothing is found."""
+    boxes = sorted(board.boxes)
+    lost = [square for square in boxes if square not in board.live()]
+    if lost:
+        return "dead", lost
+    if not frozen(board, boxes):
+        return None
+    few = list(boxes)
+    for square in boxes if len(boxes) <= MOST_BOXES else []:
+        others = [other for other in few if other != square]
+        if frozen(board, others):
+            few = others
+    return "frozen", few
+
+
+def nearest_exit(board):
+    """How many steps lead to the nearest squares at the edge of the grid, and these squares."""
+    seen, layer, count = {board.player}, [board.player], 0
+    while layer:
+        edge = [square for square in layer if not all(board.has(moved(square, step)) for step in DIRS.values())]
+        if edge:
+            return edge
+        layer = sorted({moved(square, step) for square in layer for step in DIRS.values()} - seen - board.walls)
+        seen |= set(layer)
+    return []
+
+
+def explained(board, places, is_wanted):
+    """What is written below the line of a level, without the square at which the player gets out."""
+
+    def at(square):
+        line, is_plain = places[square[0]]
+        return f"line {line}, column {square[1] + 1}" + ("" if is_plain else f" of row {square[0] + 1}")
+
+    def sentences(words, squares):
+        squares = sorted(squares)
+        more = [f"and {len(squares) - MOST_PLACES} more"] if len(squares) > MOST_PLACES else []
+        return [f"{words} at {at(square)}" for square in squares[:MOST_PLACES]] + more
+
+    said, shown = [], is_wanted
+    if board.fault is None:
+        found = doomed(board)
+        if found is None:
+            said = ["nothing found against it, which does not say that it can be solved"] if is_wanted else []
+        elif found[0] == "dead":
+            said = sentences("unsolvable: a box is on a dead square", found[1])
+        else:
+            said = ["unsolvable: some of these boxes are frozen, not all of them on goals",
+                    *sentences("a box is", found[1])]
+    elif board.fault[0] in "12":
+        said, shown = ["it has more rows or columns than a level may have"], False
+    elif board.fault[0] in "56":
+        said = sentences("a box is", board.boxes) + sentences("a goal is", board.goals)
+    elif board.fault[0] == "7":
+        said = [[f"the player gets out at {at(square)}" for square in nearest_exit(board)]]
+    else:
+        said = sentences("a player is", board.squares(b"@+"))
+    return said, b"".join(row.rstrip(b" ") + b"\n" for row in board.rows) if shown else b""
+
+
+def explain(data, wanted):
+    """The statuses and reports of `explain` that are right, for all levels or the wanted one."""
+    parts, lines, sound = parts_of(data), [], True
+    boards = [Board(*part[:3]) for part in parts]
+    firsts = [0] + [board.first for board in boards] + [len(data) + 2]
+    if wanted is not None and wanted > len(boards):
+        return [(1, line(f"no level {wanted}"))]
+    broken = broken_rows(data)
+    texts = [b""]
+    for number, before, after in zip(range(1, len(boards) + 2), firsts, firsts[1:]):
+        if wanted in (None, number, number - 1):
+            for row, text in broken:
+                if before < row < after:
+                    texts, sound = [old + text for old in texts], False
+        if number > len(boards) or wanted not in (None, number):
+            continue
+        board = boards[number - 1]
+        said, picture = explained(board, parts[number - 1][3], wanted is not None)
+        if board.fault is None and not said:
+            continue
+        judged = f"fault {board.fault}" if board.fault else f"ok {board.height}x{board.width} {len(board.boxes)} boxes"
+        head = line(f"{number} line {board.first} {judged}", board.name)
+        is_sound = board.fault is None and said[0].startswith("nothing")
+        sound = sound and is_sound
+        ways = said[0] if said and isinstance(said[0], list) else None
+        bodies = [[way] for way in ways] if ways else [said]
+        texts = [old + head + b"".join(line(f"  {one}") for one in body) + picture
+                 for old in texts for body in bodies]
+    good = sum(board.fault is None for board in boards)
+    totals = line(f"{len(boards)} levels, {good} good") if wanted is None else b""
+    return [(0 if sound else 1, text + totals) for text in texts]
 
 
 def show(data, number):

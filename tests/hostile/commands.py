@@ -61,6 +61,8 @@ def with_moves(report):
 def each(file):
     """The same of `best` of all levels. SOLUTION is the only best solution of those that are lawful."""
     faults = [board.fault for board in formats.boards_of(file)]
+    if not faults:
+        return 1, b"no level 1\n"
     lines = [f"{n} " + (f"fault {it}" if it else "optimal 1 pushes, 1 moves  R") for n, it in enumerate(faults, 1)]
     bad = sum(it is not None for it in faults)
     lines.append(f"{len(faults)} levels, {len(faults) - bad} optimal, 0 unsolvable, 0 open, {bad} not judged")

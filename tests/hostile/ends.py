@@ -185,11 +185,9 @@ def longest(bench):
     fault = (1, b"fault 1 TooTall\n", b"")
     checked = (1, b"1 line 1 fault 1 TooTall\n1 levels, 0 good\n", b"")
     none = (1, b"no level 1\n", b"")
-    totals = "{} levels, 0 optimal, 0 unsolvable, 0 open, {} not judged\n"
-    tried = (1, f"1 fault 1 TooTall\n{totals.format(1, 1)}".encode(), b"")
+    tried = (1, b"1 fault 1 TooTall\n1 levels, 0 optimal, 0 unsolvable, 0 open, 1 not judged\n", b"")
     cases = ((tall, fault, {"check": checked, "each": tried}),
-             (tall + b"9999", none, {"check": (0, b"0 levels, 0 good\n", b""),
-                                     "each": (0, totals.format(0, 0).encode(), b"")}),
+             (tall + b"9999", none, {"check": (0, b"0 levels, 0 good\n", b"")}),
              (tall + b"9999#", TOO_LONG, {}))
     for data, said, others in cases:
         path = bench.file(data)

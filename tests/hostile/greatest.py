@@ -9,6 +9,8 @@ SIDE = 255
 MOST_BOXES = 64
 # the limit of `solve` for these levels
 LIMIT = 5_000_000
+# the processor time that `best` and `prove` may take where walks are long, in seconds: far more than they take
+SECONDS = 20
 
 
 def solved(text, positions):
@@ -43,6 +45,24 @@ def hall_of(side):
     rows[0][1], rows[1][2], rows[side - 4][side - 3] = "@$."
     text = "r" + "D" * (side - 5) + "ld" + "R" * (side - 5)
     return level_of(["#" * side, *map("".join, rows), "#" * side]), solved(text, (side - 4)**2)
+
+
+def maze(side, pushes):
+    """Corridors to and fro, of which the last has a box that needs this many pushes along it, as far as there is room,
+    and the player at the beginning of the first: the level, and its only solution."""
+    rows = [list("#" * side) for _ in range(side)]
+    ways, text = (side - 1) // 2, ""
+    for way in range(ways):
+        rows[2 * way + 1][1:-1] = " " * (side - 2)
+        if way:
+            rows[2 * way][-2 if way % 2 else 1] = " "
+            text += ("r" if way % 2 else "l") * (side - 3) + "dd"
+    pushes = min(pushes, side - 4)
+    last = rows[-2][1:-1] if ways % 2 else rows[-2][-2:0:-1]
+    last[1], last[pushes + 1] = "$."
+    rows[-2][1:-1] = last if ways % 2 else last[::-1]
+    rows[1][1] = "@"
+    return level_of(map("".join, rows)), text + ("R" if ways % 2 else "L") * pushes
 
 
 def crowd(across, down):
@@ -85,6 +105,23 @@ def formulas(_):
             level, report = make(*size)
             found = search.solve(formats.boards_of(level)[0], PLENTY, PLENTY)
             yield f"{name} {size}", differs(report, found)
+
+
+def walks(bench):
+    """`best` and `prove` where walks are long: they report in time. In the empty room --moves takes longer."""
+    moves = ["best", "FILE", "1", "--moves"]
+    commands = [["best", "FILE", "1"], ["prove", "FILE", "1", "MOVES"]]
+    levels = [(f"a maze of side {side}, {pushes} pushes", *maze(side, pushes), [*commands, moves])
+              for side in (63, 127, SIDE) for pushes in (10, 100)]
+    level, report = hall_of(SIDE)
+    levels.append(("an empty room", level, report[1].split(b"\n")[1].decode(), commands))
+    for name, level, text, words in levels:
+        paths = {"FILE": bench.file(level), "MOVES": bench.file(text.encode())}
+        for command in words:
+            run = [bench.program, *(paths.get(word, word) for word in command)]
+            status, out, _ = bench.run(["bash", "-c", f'ulimit -t {SECONDS}; exec "$@"', "", *run])
+            is_right = status == 0 and out.startswith(b"optimal %d pushes, " % sum(map(str.isupper, text)))
+            yield f"{' '.join(command)} of {name}", None if is_right else f"{status}, {out[:80]}"
 
 
 def cases():

@@ -18,7 +18,7 @@ SOLVED = [
 ]
 
 # searches of `best` by several workers: how many, the number of a room of tests/prove/tables.xsb, the fewest pushes by
-# `solve`, and a limit that is passed; the last search also makes tables of regions
+# `solve`, and a limit that is passed, except by the last search, which makes tables of regions and ends
 SEARCHED = [(2, 7, 16, 200), (4, 7, 16, 200), (4, 5, 13, 700)]
 # a room of bench/dense.xsb that makes tables of regions, and KB of address space: the first, the last and the steps in
 # which one worker searches, and how often it reports before the end; numbers of workers, and what each has more
@@ -62,19 +62,32 @@ def memory(bench, worked, workers, locks):
 
 
 def searching(bench, workers, number, pushes, limit):
-    """`best` by several workers, up to its limit; each request for memory fails in turn, alone or with all later ones:
-    the report of one worker, or out of memory."""
+    """`best` by several workers, up to its end or its limit; each request for memory fails in turn, alone or with all
+    later ones: the report of one worker, or out of memory."""
     with open(os.path.join(ROOT, "tests", "prove", "tables.xsb"), "rb") as file:
         level = b"\n".join(formats.boards_of(file.read())[number - 1].rows) + b"\n"
     words = [bench.program, "best", bench.file(level), "1", "--limit", str(limit)]
     status, out, err = report = bench.run(words)
     bound = re.fullmatch(rb"limit %d reached, at least (\d+) pushes\n" % limit, out)
-    is_right = (status, err) == (4, b"") and bound and int(bound[1]) <= pushes
+    found = re.fullmatch(rb"optimal (\d+) pushes, \d+ moves\n[LRUDlrud]+\n", out)
+    is_open = status == 4 and bound and int(bound[1]) <= pushes
+    is_right = err == b"" and (is_open or status == 0 and found and int(found[1]) == pushes)
     yield f"{words[1:]}, one worker", None if is_right else f"gives {report}"
     words += ["--workers", str(workers)]
     for name, fault in shims.refused(lambda env: bench.run(words, env=env), bench.refuse,
-                                     lambda got, _: differs(got, report)):
+                                     lambda got, _: unlike(got, report, level)):
         yield f"{words[1:]}, {name}", fault
+
+
+def unlike(got, report, level, number=1):
+    """What is wrong with a report where `report` comes with ample memory; None where nothing is. A solution with as many
+    pushes may have more moves: if memory fails while a search looks for fewer, it reports what it has."""
+    found, wanted = (re.fullmatch(rb"optimal (\d+) pushes, (\d+) moves\n([LRUDlrud]+)\n", it[1]) for it in (got, report))
+    if not found or not wanted:
+        return differs(got, report)
+    solved = formats.replay(level, number, found[3])
+    right = (0, b"solved %s pushes, %s moves\n" % (wanted[1], found[2]))
+    return differs((got[0], got[2], solved), (report[0], report[2], right))
 
 
 def moves(bench):
@@ -158,7 +171,8 @@ def short(bench, command, workers):
     yield f"{words} with all address space", differs((report[0], report[2]), (status, b""))
     for space, run in itertools.product(SHORT_SPACE, range(SHORT_RUNS)):
         got = within(bench, words, space)
-        yield f"{words} within {space} KB, run {run + 1}", None if got == OUT_OF_MEMORY else differs(got, report)
+        fault = None if got == OUT_OF_MEMORY else unlike(got, report, read(collection), int(number))
+        yield f"{words} within {space} KB, run {run + 1}", fault
 
 
 def spaces(bench, command):
@@ -167,12 +181,12 @@ def spaces(bench, command):
     (collection, number), first, last, step, times = SPACES
     words = [command, os.path.join(ROOT, collection), str(number)]
     words += [bench.file(line_of("bench/dense.lurd", number))] if command == "prove" else []
-    report, answers = bench.run([bench.program, *words]), 0
+    report, answers, level = bench.run([bench.program, *words]), 0, read(collection)
     for space in range(first, last, step):
         got = within(bench, words, space)
         answers += got == report
         if got[0] != LOADER:
-            yield f"{words} within {space} KB", None if got == OUT_OF_MEMORY else differs(got, report)
+            yield f"{words} within {space} KB", None if got == OUT_OF_MEMORY else unlike(got, report, level, number)
         for workers in SEVERAL if got == report else ():
             several, enough = [*words, "--workers", str(workers)], space + workers * MORE_SPACE
             yield f"{several} within {enough} KB", differs(within(bench, several, enough), report)
@@ -186,10 +200,15 @@ def short_cases():
     return [it for it in itertools.product(SHORT, SHORT_WORKERS) if it[0][0][0] == "solve" or it[1] == 1]
 
 
+def read(path):
+    """The bytes of a file of the repository."""
+    with open(os.path.join(ROOT, path), "rb") as it:
+        return it.read()
+
+
 def line_of(path, number):
     """A line of a file of the repository, counted from 1."""
-    with open(os.path.join(ROOT, path), "rb") as it:
-        return it.read().splitlines()[number - 1]
+    return read(path).splitlines()[number - 1]
 
 
 def shortest(bench):

@@ -16,3 +16,4 @@ pub mod BySteps
 pub mod Chains
 pub mod PushLists
 pub mod Unused
+pub mod WalkLengths

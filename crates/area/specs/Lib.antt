@@ -4,5 +4,6 @@ pub mod Groups
 pub mod LeastWalks
 pub mod Pushes
 pub mod Reach
+pub mod WalkLengths
 pub mod Words
 pub mod inside

@@ -7,13 +7,15 @@
 //!   a push, in less time.
 //! - [`possible_pushes`] lists the pushes that a position allows.
 //! - [`walk`] gives the moves between two pushes.
+//! - [`Walks`] measures the lengths of the shortest walks to all squares at once.
 //!
 //! # What it costs
 //!
-//! All calls work in a [`Scratch`]: about five bytes a square, made once for levels of the same rows and columns.
-//! Beside that only [`walk`] takes memory, for its moves. In the player's room a flood works on words of 64 squares
-//! and keeps up to two words in registers; outside the room it goes from square to square. After a push the flood
-//! of the position before it mostly decides, so a search makes one flood a position.
+//! All calls except those of [`Walks`] work in a [`Scratch`]: about five bytes a square, made once for levels of the
+//! same rows and columns. Beside that only [`walk`] takes memory, for its moves. In the player's room a flood works on
+//! words of 64 squares and keeps up to two words in registers; outside the room it goes from square to square, and
+//! so do searches for walks. After a push the flood of the position before it mostly decides, so a search makes one
+//! flood a position.
 //!
 //! # Example
 //!
@@ -46,6 +48,7 @@ mod set;
 mod sight;
 mod spread;
 mod steps;
+mod walks;
 
 pub use after::normalise_after;
 pub use floods::{flood, normal};
@@ -53,3 +56,4 @@ pub use possible::{MAX_PUSHES, possible_pushes};
 pub use route::walk;
 pub use scratch::Scratch;
 pub use set::SquareSet;
+pub use walks::Walks;

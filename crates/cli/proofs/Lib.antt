@@ -1,3 +1,4 @@
 pub mod Digits
 pub mod Asking
+pub mod Parsing
 pub mod Running

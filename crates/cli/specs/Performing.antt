@@ -1,18 +1,21 @@
 -- What performing a request does: which engine runs, on which files, and with which settings.
-use Rattle.std.specs.Prelude.{◌≡◌, ℕ, ◌⊎◌, List, [], Option, Result, Ok, Err}
+use Rattle.std.specs.Prelude.{◌≡◌, ℕ, ◌⊎◌, List, [], Option, Result, Ok, Err, ⊤}
 use Rattle.sokopar.specs.Best.{IsBestReport}
 use Rattle.sokopar.specs.Collection.{BeginsCollectionReport, IsCollectionReport}
 use Rattle.sokopar.specs.DeadMap.{IsDeadReport}
 use Rattle.sokopar.specs.Ends.{Seen}
 use Rattle.sokopar.specs.OneReport.{IsOnlySolveReport}
+use Rattle.sokopar.specs.Explaining.{IsExplainReport}
+use Rattle.sokopar.specs.Folder.{BeginsSolutionsReport, IsSolutionsReport}
 use Rattle.sokopar.specs.Proving.{IsProveReport}
-use Rattle.sokopar.specs.Report.{Report, IsCheckReport, IsReplayReport, IsShowReport}
+use Rattle.sokopar.specs.Report.{Report, IsCheckReport, IsReplayReport, IsShowReport, Written, WrittenOfTwo}
 use Rattle.sokopar.specs.Runs.{Runs, RunsByLine, RunsInTwo}
 use Rattle.sokopar.specs.declared.fault.RunFault.{RunFault}
 use Rattle.sokopar.specs.declared.fault.RunFault.TheVariants.{OutOfMemory}
+use Rattle.cli.specs.CommandLine.{IsNoRequest, IsRequestOf}
 use Rattle.cli.specs.declared.request.Request.{Request}
-use Rattle.cli.specs.declared.request.Request.TheVariants.{Check, Show, Dead, Replay, Solve, Best, BestCollection}
-use Rattle.cli.specs.declared.request.Request.TheVariants.{Prove}
+use Rattle.cli.specs.declared.request.Request.TheVariants.{Check, Explain, Show, Dead, Replay, Solve, Best}
+use Rattle.cli.specs.declared.request.Request.TheVariants.{BestCollection, Prove, ProveCollection}
 use Rattle.cli.specs.declared.trouble.Trouble.{Trouble}
 use Rattle.cli.specs.declared.trouble.Trouble.TheVariants as trouble
 
@@ -20,34 +23,33 @@ use Rattle.cli.specs.declared.trouble.Trouble.TheVariants as trouble
 abbrev pub IsOpened : {File : Type 0} → (List ℕ → File → Type 0) → (File → Seen) → List ℕ → File → Type 0
 IsOpened opens seen path file = opens path file × ((seen file).acts ≡ [])
 
--- a path could not be opened, or memory ran out
-abbrev pub CannotOpen : List ℕ → Trouble → Type 0
-CannotOpen path (trouble.Open named) = named.now ≡ path
-CannotOpen path (trouble.Run fault) = fault ≡ OutOfMemory
+-- nothing is known of what opening the solution of a level in a folder gave
+abbrev pub gives_any : {File : Type 0} → ℕ → Result (Option File) RunFault → Type 0
+gives_any n result = ⊤
 
--- `opens` says which files opening a path gives, `seen` and `shown` what contracts see of a file and of the output
-module _ {File Output : Type 0} (opens : List ℕ → File → Type 0) (seen : File → Seen) (shown : Output → Seen) where
+-- opening this path failed; or memory ran out, and no path is named
+abbrev pub CannotOpen : (List ℕ → Type 0) → List ℕ → Trouble → Type 0
+CannotOpen refuses path (trouble.Open named) = (named.now ≡ path) × refuses path
+CannotOpen refuses path (trouble.Run fault) = fault ≡ OutOfMemory
+
+-- `opens` says which files opening a path gives, `seen` what contracts see of a file, `output` and `written` what they
+-- see of the output before and after
+module _ {File : Type 0} (opens : List ℕ → File → Type 0) (seen : File → Seen) (output written : Seen) where
   -- an engine with these reports ran on the file at this path and on the output, and ended with this result
   pub record RunsOn (IsReport : List ℕ → Report → Type 0) (path : List ℕ) (result : Result ℕ RunFault) : Type 0 where
     pub file : File
     pub read : File
-    pub output : Output
-    pub written : Output
     pub opened : IsOpened opens seen path file
-    pub fresh : (shown output).acts ≡ []
-    pub runs : Runs IsReport (seen file) (seen read) (shown output) (shown written) result
+    pub runs : Runs IsReport (seen file) (seen read) output written result
 
   -- an engine that writes its report line by line ran on the file at this path and on the output, and ended with this
   -- result
-  pub record RunsOnByLine (IsReport : List ℕ → Report → Type 0) (Begins : List ℕ → List ℕ → Type 0) (path : List ℕ)
+  pub record RunsOnByLine (IsReport : List ℕ → List (List ℕ) → ℕ → Type 0) (Begins : List ℕ → List (List ℕ) → Type 0) (path : List ℕ)
       (result : Result ℕ RunFault) : Type 0 where
     pub file : File
     pub read : File
-    pub output : Output
-    pub written : Output
     pub opened : IsOpened opens seen path file
-    pub fresh : (shown output).acts ≡ []
-    pub runs : RunsByLine IsReport Begins (seen file) (seen read) (shown output) (shown written) result
+    pub runs : RunsByLine IsReport Begins (seen file) (seen read) output written result
 
   -- an engine with these reports of level n ran on the files at these paths and on the output, and ended with this
   -- result
@@ -57,43 +59,47 @@ module _ {File Output : Type 0} (opens : List ℕ → File → Type 0) (seen : F
     pub read : File
     pub second : File
     pub second_read : File
-    pub output : Output
-    pub written : Output
     pub opened : IsOpened opens seen path file
     pub second_opened : IsOpened opens seen second_path second
-    pub fresh : (shown output).acts ≡ []
-    pub runs : RunsInTwo IsReport n (seen file) (seen read) (seen second) (seen second_read) (shown output)
-        (shown written) result
+    pub runs : RunsInTwo IsReport n (seen file) (seen read) (seen second) (seen second_read) output written result
 
   -- the engine of the request ran on its files with its settings, and ended with this result
   abbrev pub RunsEngine : Request → Result ℕ RunFault → Type 0
   RunsEngine (Check file) result = RunsOn IsCheckReport file.now result
+  RunsEngine (Explain file number) result = RunsOn (IsExplainReport number) file.now result
   RunsEngine (Show file number) result = RunsOn (IsShowReport number) file.now result
   RunsEngine (Dead file number) result = RunsOn (IsDeadReport number) file.now result
   RunsEngine (Replay file number solution) result =
       RunsOnTwo (IsReplayReport number) number file.now solution.now result
   RunsEngine (Solve file search) result =
-      RunsOn (IsOnlySolveReport search.config.cap search.config.limit search.number) file.now result
-  RunsEngine (Best file search) result =
-      RunsOn (IsBestReport search.config.moves search.config.cap search.config.limit search.number) file.now result
-  RunsEngine (BestCollection file search) result =
-      RunsOnByLine
-      (IsCollectionReport search.config.moves search.config.cap search.config.limit search.from search.to)
-      (BeginsCollectionReport search.config.moves search.config.cap search.config.limit search.from search.to)
+      RunsOn (Written search.lurd (IsOnlySolveReport search.config.cap search.config.limit search.number)) file.now
+      result
+  RunsEngine (Best file search progress) result =
+      RunsOn
+      (Written search.lurd (IsBestReport search.config.moves search.config.cap search.config.limit search.number))
       file.now result
-  RunsEngine (Prove file solution search) result =
-      RunsOnTwo (IsProveReport search.moves search.limit search.number) search.number file.now solution.now result
+  RunsEngine (BestCollection file search progress) result =
+      RunsOnByLine (IsCollectionReport search) (BeginsCollectionReport search) file.now result
+  RunsEngine (Prove file solution search progress) result =
+      RunsOnTwo (WrittenOfTwo search.lurd (IsProveReport search.moves search.limit search.number)) search.number
+      file.now solution.now result
+  RunsEngine (ProveCollection file folder search progress) result =
+      RunsOnByLine (IsSolutionsReport gives_any seen search) (BeginsSolutionsReport gives_any seen search) file.now result
 
 -- a file of the request could not be opened, or memory ran out
-abbrev pub CannotOpenOne : Request → Trouble → Type 0
-CannotOpenOne (Check file) trouble = CannotOpen file.now trouble
-CannotOpenOne (Show file number) trouble = CannotOpen file.now trouble
-CannotOpenOne (Dead file number) trouble = CannotOpen file.now trouble
-CannotOpenOne (Replay file number solution) trouble = CannotOpen file.now trouble ⊎ CannotOpen solution.now trouble
-CannotOpenOne (Solve file search) trouble = CannotOpen file.now trouble
-CannotOpenOne (Best file search) trouble = CannotOpen file.now trouble
-CannotOpenOne (BestCollection file search) trouble = CannotOpen file.now trouble
-CannotOpenOne (Prove file solution search) trouble = CannotOpen file.now trouble ⊎ CannotOpen solution.now trouble
+abbrev pub CannotOpenOne : (List ℕ → Type 0) → Request → Trouble → Type 0
+CannotOpenOne refuses (Check file) why = CannotOpen refuses file.now why
+CannotOpenOne refuses (Explain file number) why = CannotOpen refuses file.now why
+CannotOpenOne refuses (Show file number) why = CannotOpen refuses file.now why
+CannotOpenOne refuses (Dead file number) why = CannotOpen refuses file.now why
+CannotOpenOne refuses (Replay file number solution) why =
+    CannotOpen refuses file.now why ⊎ CannotOpen refuses solution.now why
+CannotOpenOne refuses (Solve file search) why = CannotOpen refuses file.now why
+CannotOpenOne refuses (Best file search progress) why = CannotOpen refuses file.now why
+CannotOpenOne refuses (BestCollection file search progress) why = CannotOpen refuses file.now why
+CannotOpenOne refuses (ProveCollection file folder search progress) why = CannotOpen refuses file.now why
+CannotOpenOne refuses (Prove file solution search progress) why =
+    CannotOpen refuses file.now why ⊎ CannotOpen refuses solution.now why
 
 -- how performing ends: as an engine ended, or since a file could not be opened
 abbrev pub EndsBy : (Result ℕ RunFault → Type 0) → (Trouble → Type 0) → Result ℕ Trouble → Type 0
@@ -101,10 +107,16 @@ EndsBy Ran Fails (Ok status) = Ran (Ok status)
 EndsBy Ran Fails (Err (trouble.Run fault)) = Ran (Err fault) ⊎ Fails (trouble.Run fault)
 EndsBy Ran Fails (Err (trouble.Open path)) = Fails (trouble.Open path)
 
--- what performing a request does, by its result: its engine ran on its files, or one of them could not be opened
-abbrev pub Performs : {File Output : Type 0} → (List ℕ → File → Type 0) → (File → Seen) → (Output → Seen) → Request →
-    Result ℕ Trouble → Type 0
-Performs opens seen shown request result = EndsBy (RunsEngine opens seen shown request) (CannotOpenOne request) result
+-- no engine ran since a file of the request could not be opened, and nothing was written
+abbrev pub OpensNone : (List ℕ → Type 0) → Seen → Seen → Request → Trouble → Type 0
+OpensNone refuses output written request why = CannotOpenOne refuses request why × (written ≡ output)
+
+-- what performing a request does, by its result: its engine ran on its files and wrote its report; or one of the files
+-- could not be opened, and nothing was written
+abbrev pub Performs : {File : Type 0} → (List ℕ → File → Type 0) → (List ℕ → Type 0) → (File → Seen) → Seen → Seen →
+    Request → Result ℕ Trouble → Type 0
+Performs opens refuses seen output written request result =
+    EndsBy (RunsEngine opens seen output written request) (OpensNone refuses output written request) result
 
 -- the exit status where there is no whole report
 abbrev pub trouble_status : Trouble → ℕ
@@ -112,8 +124,21 @@ trouble_status (trouble.Run OutOfMemory) = 5
 trouble_status other = 3
 
 -- the program's exit status for a request: that of the report, or that of the trouble
-abbrev pub Exits : {File Output : Type 0} → (List ℕ → File → Type 0) → (File → Seen) → (Output → Seen) → Request → ℕ
-    → Type 0
-Exits opens seen shown request status =
-    Performs opens seen shown request (Ok status) ⊎
-    ((trouble : Trouble) × Performs opens seen shown request (Err trouble) × (status ≡ trouble_status trouble))
+abbrev pub Exits : {File : Type 0} → (List ℕ → File → Type 0) → (List ℕ → Type 0) → (File → Seen) → Seen → Seen →
+    Request → ℕ → Type 0
+Exits opens refuses seen output written request status =
+    Performs opens refuses seen output written request (Ok status) ⊎
+    ((why : Trouble) × Performs opens refuses seen output written request (Err why) × (status ≡ trouble_status why))
+
+-- the exit status where no request is performed: memory ran out; or the words are no request, and the program prints
+-- help or the version, finds a fault in the words, or cannot print
+abbrev pub ExitsWithout : List (List ℕ) → ℕ → Type 0
+ExitsWithout words status = (status ≡ 5) ⊎ (IsNoRequest words × ((status ≡ 0) ⊎ (status ≡ 2) ⊎ (status ≡ 3)))
+
+-- what the program does for the words of its command line, by its exit status: it performs the request that they are;
+-- or it performs none, and no engine writes to the output
+abbrev pub Answers : {File : Type 0} → (List ℕ → File → Type 0) → (List ℕ → Type 0) → (File → Seen) → Seen → Seen →
+    List (List ℕ) → ℕ → Type 0
+Answers opens refuses seen output written words status =
+    ((request : Request) × IsRequestOf words request × Exits opens refuses seen output written request status) ⊎
+    ((written ≡ output) × ExitsWithout words status)

@@ -4,12 +4,15 @@ ghost use Rattle.std.specs.Prelude.{◌≤◌};
 ghost use Rattle.crew.specs.Configured.{IsWithinLimits};
 ghost use Rattle.cli.specs.Performing.{Performs};
 
+use crate::meter::Meter;
 use crate::request::Request;
-use crate::system::System;
+use crate::system::{Solutions, System};
 use crate::trouble::Trouble;
+use crew::Free;
 use sokopar::{
-    BestRequest, CollectionRequest, ProveRequest, SolveRequest, run_best, run_best_collection,
-    run_check, run_dead, run_prove, run_replay, run_show, run_solve,
+    BestRequest, CollectionRequest, ProveRequest, Sink, SolutionsRequest, SolveRequest, run_best,
+    run_best_collection, run_check, run_dead, run_explain, run_prove, run_prove_collection,
+    run_replay, run_show, run_solve_with,
 };
 use std::alloc::Global;
 use std::sync::Wait;
@@ -17,141 +20,193 @@ use std::thread::Threads;
 
 #[tactic(auto, using(crate::proofs::Running::endings))]
 /// Checks a collection.
-pub(crate) fn check<'a, S: System>(
+pub(crate) fn check<'a, S: System, K: Sink>(
     system: &S,
     alloc: Global,
     file: &'a str,
+    sink: &mut K,
 ) -> Result<u8, Trouble<'a>>
-    ensures { Performs S.opens S.File.seen S.Output.seen (Request.Check file.entry) result }
+    ensures { Performs S.opens S.refuses S.File.seen (K.seen sink.old) (K.seen sink.new)
+        (Request.Check file.entry) result }
 {
     let mut source = system.open(file)?;
-    let mut sink = system.output();
-    Ok(run_check(alloc, &mut source, &mut sink)?)
+    Ok(run_check(alloc, &mut source, sink)?)
+}
+
+#[tactic(auto, using(crate::proofs::Running::endings))]
+/// Explains where and why levels are faulty.
+pub(crate) fn explain<'a, S: System, K: Sink>(
+    system: &S,
+    alloc: Global,
+    file: &'a str,
+    number: Option<u32>,
+    sink: &mut K,
+) -> Result<u8, Trouble<'a>>
+    ensures { Performs S.opens S.refuses S.File.seen (K.seen sink.old) (K.seen sink.new)
+        (Request.Explain file.entry number) result }
+{
+    let mut source = system.open(file)?;
+    Ok(run_explain(alloc, &mut source, number, sink)?)
 }
 
 #[tactic(auto, using(crate::proofs::Running::endings))]
 /// Shows a level.
-pub(crate) fn show<'a, S: System>(
+pub(crate) fn show<'a, S: System, K: Sink>(
     system: &S,
     alloc: Global,
     file: &'a str,
     number: u32,
+    sink: &mut K,
 ) -> Result<u8, Trouble<'a>>
     requires { 1 ≤ number }
-    ensures { Performs S.opens S.File.seen S.Output.seen (Request.Show file.entry number) result }
+    ensures { Performs S.opens S.refuses S.File.seen (K.seen sink.old) (K.seen sink.new)
+        (Request.Show file.entry number) result }
 {
     let mut source = system.open(file)?;
-    let mut sink = system.output();
-    Ok(run_show(alloc, &mut source, number, &mut sink)?)
+    Ok(run_show(alloc, &mut source, number, sink)?)
 }
 
 #[tactic(auto, using(crate::proofs::Running::endings))]
 /// Shows the dead squares of a level.
-pub(crate) fn dead<'a, S: System>(
+pub(crate) fn dead<'a, S: System, K: Sink>(
     system: &S,
     alloc: Global,
     file: &'a str,
     number: u32,
+    sink: &mut K,
 ) -> Result<u8, Trouble<'a>>
     requires { 1 ≤ number }
-    ensures { Performs S.opens S.File.seen S.Output.seen (Request.Dead file.entry number) result }
+    ensures { Performs S.opens S.refuses S.File.seen (K.seen sink.old) (K.seen sink.new)
+        (Request.Dead file.entry number) result }
 {
     let mut source = system.open(file)?;
-    let mut sink = system.output();
-    Ok(run_dead(alloc, &mut source, number, &mut sink)?)
+    Ok(run_dead(alloc, &mut source, number, sink)?)
 }
 
 #[tactic(auto, using(crate::proofs::Running::endings))]
 /// Replays a solution on a level.
-pub(crate) fn replay<'a, S: System>(
+pub(crate) fn replay<'a, S: System, K: Sink>(
     system: &S,
     alloc: Global,
     file: &'a str,
     number: u32,
     solution: &'a str,
+    sink: &mut K,
 ) -> Result<u8, Trouble<'a>>
     requires { 1 ≤ number }
-    ensures { Performs S.opens S.File.seen S.Output.seen (Request.Replay file.entry number solution.entry) result }
+    ensures { Performs S.opens S.refuses S.File.seen (K.seen sink.old) (K.seen sink.new)
+        (Request.Replay file.entry number solution.entry) result }
 {
     let mut source = system.open(file)?;
     let mut letters = system.open(solution)?;
-    let mut sink = system.output();
-    Ok(run_replay(alloc, &mut source, number, &mut letters, &mut sink)?)
+    Ok(run_replay(alloc, &mut source, number, &mut letters, sink)?)
 }
 
 #[tactic(auto, using(crate::proofs::Running::endings))]
 /// Solves a level.
-pub(crate) fn solve<'a, R: Threads + Wait + Sync, S: System>(
+pub(crate) fn solve<'a, R: Threads + Wait + Sync, S: System, K: Sink>(
     rt: &R,
     system: &S,
     alloc: Global,
     file: &'a str,
     search: SolveRequest,
+    sink: &mut K,
 ) -> Result<u8, Trouble<'a>>
     requires number { 1 ≤ search.number }
     requires limits { IsWithinLimits search.config }
-    ensures { Performs S.opens S.File.seen S.Output.seen (Request.Solve file.entry search) result }
+    ensures { Performs S.opens S.refuses S.File.seen (K.seen sink.old) (K.seen sink.new)
+        (Request.Solve file.entry search) result }
 {
     let mut source = system.open(file)?;
-    let mut sink = system.output();
-    Ok(run_solve(
-        rt,
-        alloc,
-        &mut source,
-        search.number,
-        search.config,
-        &mut sink,
-    )?)
+    Ok(run_solve_with(rt, alloc, &mut source, search, &Free, sink)?)
 }
 
 #[tactic(auto, using(crate::proofs::Running::endings))]
 /// Finds a solution with the fewest pushes of a level.
-pub(crate) fn best<'a, R: Threads + Sync, S: System>(
+pub(crate) fn best<'a, R: Eprint + Threads + Sync, S: System, K: Sink>(
     rt: &R,
     system: &S,
     alloc: Global,
     file: &'a str,
     search: BestRequest,
+    progress: bool,
+    sink: &mut K,
 ) -> Result<u8, Trouble<'a>>
     requires { 1 ≤ search.number }
-    ensures { Performs S.opens S.File.seen S.Output.seen (Request.Best file.entry search) result }
+    ensures { Performs S.opens S.refuses S.File.seen (K.seen sink.old) (K.seen sink.new)
+        (Request.Best file.entry search progress) result }
 {
     let mut source = system.open(file)?;
-    let mut sink = system.output();
-    Ok(run_best(rt, alloc, &mut source, search, &mut sink)?)
+    let mut meter = Meter::new(rt, progress);
+    Ok(run_best(rt, alloc, &mut source, search, &mut meter, sink)?)
 }
 
 #[tactic(auto, using(crate::proofs::Running::endings))]
 /// Finds a solution with the fewest pushes of each level of a part of a collection.
-pub(crate) fn best_collection<'a, R: Threads + Sync, S: System>(
+pub(crate) fn best_collection<'a, R: Eprint + Threads + Sync, S: System, K: Sink>(
     rt: &R,
     system: &S,
     alloc: Global,
     file: &'a str,
     search: CollectionRequest,
+    progress: bool,
+    sink: &mut K,
 ) -> Result<u8, Trouble<'a>>
-    ensures { Performs S.opens S.File.seen S.Output.seen (Request.BestCollection file.entry search) result }
+    ensures { Performs S.opens S.refuses S.File.seen (K.seen sink.old) (K.seen sink.new)
+        (Request.BestCollection file.entry search progress) result }
 {
     let mut source = system.open(file)?;
-    let mut sink = system.output();
-    Ok(run_best_collection(rt, alloc, &mut source, search, &mut sink)?)
+    let mut meter = Meter::new(rt, progress);
+    Ok(run_best_collection(rt, alloc, &mut source, search, &mut meter, sink)?)
 }
 
 #[tactic(auto, using(crate::proofs::Running::endings))]
 /// Proves that a solution has the fewest pushes on a level.
-pub(crate) fn prove<'a, R: Threads + Sync, S: System>(
+pub(crate) fn prove<'a, R: Eprint + Threads + Sync, S: System, K: Sink>(
     rt: &R,
     system: &S,
     alloc: Global,
     file: &'a str,
     solution: &'a str,
     search: ProveRequest,
+    progress: bool,
+    sink: &mut K,
 ) -> Result<u8, Trouble<'a>>
     requires { 1 ≤ search.number }
-    ensures { Performs S.opens S.File.seen S.Output.seen (Request.Prove file.entry solution.entry search) result }
+    ensures { Performs S.opens S.refuses S.File.seen (K.seen sink.old) (K.seen sink.new)
+        (Request.Prove file.entry solution.entry search progress) result }
 {
     let mut source = system.open(file)?;
     let mut letters = system.open(solution)?;
-    let mut sink = system.output();
-    Ok(run_prove(rt, alloc, &mut source, &mut letters, search, &mut sink)?)
+    let mut meter = Meter::new(rt, progress);
+    Ok(run_prove(
+        rt,
+        alloc,
+        &mut source,
+        &mut letters,
+        search,
+        &mut meter,
+        sink,
+    )?)
+}
+
+#[tactic(auto, using(crate::proofs::Running::endings))]
+/// Proves that each solution of a folder has the fewest pushes on its level of a part of a collection.
+pub(crate) fn prove_collection<'a, R: Eprint + Threads + Sync, S: System, K: Sink>(
+    rt: &R,
+    system: &S,
+    alloc: Global,
+    file: &'a str,
+    folder: &'a str,
+    search: SolutionsRequest,
+    progress: bool,
+    sink: &mut K,
+) -> Result<u8, Trouble<'a>>
+    ensures { Performs S.opens S.refuses S.File.seen (K.seen sink.old) (K.seen sink.new)
+        (Request.ProveCollection file.entry folder.entry search progress) result }
+{
+    let mut source = system.open(file)?;
+    let solutions = Solutions::new(system, alloc, folder);
+    let mut meter = Meter::new(rt, progress);
+    Ok(run_prove_collection(rt, alloc, &mut source, &solutions, search, &mut meter, sink)?)
 }

@@ -110,6 +110,7 @@ fn check_notes(alloc: Global) -> Result<String, AllocError> {
           2 TooWide     More than {MAX_COLS} columns. Look for a count that is too great, as in\n                \
                         2550#.\
         {FAULTS}\n\n{MISSING}\n\n\
+        'sokopar explain' names the squares of a fault, and lines of text with a wall.\n\n\
         Example:\n  sokopar check levels.xsb"
     )
 }
@@ -150,6 +151,18 @@ const TEXT_FAULTS: &str = "
                   digits, is not 0, and a letter comes right after it: 3r means
                   rrr. 0R and 2 R have no count.";
 
+/// The end of the help of `explain`.
+pub(crate) const EXPLAIN: &str = "\
+With N, explain tells of level N, also if nothing is found against it. Without N
+it goes through FILE, and tells of each level against which it finds something,
+and of lines with a wall that are no rows: such a line ends a level. Places are
+lines and columns of FILE, counted from 1.
+
+For a level that check calls ok it looks for boxes on dead squares and frozen
+boxes at the start. If it finds none, the level may still be unsolvable.
+
+The exit status is 0 if each level is lawful and nothing was found, else 1.";
+
 /// The end of the help of `replay`: verdicts, the faults of texts, and an example.
 fn replay_notes(alloc: Global) -> Result<String, AllocError> {
     format!(in alloc;
@@ -160,10 +173,10 @@ fn replay_notes(alloc: Global) -> Result<String, AllocError> {
           file too long   More than {MAX_FILE} bytes (on standard error).\n\n\
         If FILE has no level N, the report is 'no level N'. If the level has a fault, it\n\
         is that fault: see 'sokopar check --help'.\n\n\
-        SOLUTION may be /dev/stdin. Leave out the first line that solve writes, which is\n\
-        its verdict.\n\n\
+        SOLUTION may be /dev/stdin. The first line that solve, best and prove write is a\n\
+        verdict: --lurd leaves it out.\n\n\
         Example:\n  \
-          sokopar solve levels.xsb 1 | tail -n +2 |\n      \
+          sokopar solve levels.xsb 1 --lurd |\n      \
               sokopar replay levels.xsb 1 /dev/stdin"
     )
 }
@@ -174,7 +187,8 @@ The first line says what was found:
   solved P pushes, S moves, Q positions  The second line is the solution.
   unsolvable, Q positions                There is no solution.
   none within M pushes, Q positions      No solution has M pushes or fewer.
-  limit L reached                        Undecided: give a greater --limit.";
+  limit L reached                        Undecided: give a greater --limit, or
+                                         use best, which usually needs fewer.";
 
 /// Which solution has the fewest pushes, time and memory of a search, and examples, in the help of `solve`.
 const SEARCH: &str = "\
@@ -195,10 +209,13 @@ With --max-pushes M the search looks only for solutions with at most M pushes.
 It needs fewer positions, since it leaves out those from which the boxes need
 more.
 
+With --lurd, solve prints only the solution, and nothing if it has none. The
+exit status is the same.
+
 Examples:
   sokopar solve levels.xsb 1 --limit 5000000
   sokopar solve levels.xsb 1 --max-pushes 40
-  sokopar solve levels.xsb 1 | tail -n +2 |
+  sokopar solve levels.xsb 1 --lurd |
       sokopar replay levels.xsb 1 /dev/stdin";
 
 /// The end of the help of `solve`.
@@ -238,9 +255,18 @@ after the other. It prints a line as soon as a level is decided, and the totals:
   8 unsolvable                           Level 8: the first line as above.
   9 fault K WORD                         Level 9 has a fault.
   T levels, .. optimal, .. unsolvable, .. open, .. not judged
-Open are the levels with 'limit L reached', not judged those with a fault or
-too many boxes. The exit status is 0 if all are optimal, else 4 if one is open,
-else 1.";
+Open are the levels with 'limit L reached' or 'out of memory', not judged those
+with a fault or too many boxes. The exit status is 0 if all are optimal, else 5
+if one ran out of memory, else 4 if one is open, else 1.
+
+With --table, best prints a table for a spreadsheet or for cut: a line of names
+and a line for each level, with a tab between two columns, and no totals.";
+
+/// The lines on standard error, in the help of `best` and `prove`.
+const PROGRESS: &str = "\
+With --progress, lines on standard error show how far a search is. Each states
+what is proved at that moment:
+  level N: at least K pushes, Q positions";
 
 /// How `best` compares with `solve`, its memory, and examples, in the help of `best`.
 const BEST: &str = "\
@@ -261,20 +287,22 @@ make the search slower.
 --moves may take two to five times as long, on few levels much more. Its search
 has the same limit, for positions with the exact square of the player.
 
+With --lurd and N, best prints only the solution, and nothing if it has none.
+The exit status is the same.
+
 Examples:
   sokopar best levels.xsb 1
   sokopar best levels.xsb 1 --moves
   sokopar best levels.xsb 1 --limit 5000000
   sokopar best levels.xsb --from 5 --to 10
-  sokopar best levels.xsb 1 | tail -n +2 |
-      sokopar replay levels.xsb 1 /dev/stdin";
+  sokopar best levels.xsb 2 --lurd | sokopar prove levels.xsb 2 /dev/stdin";
 
 /// The end of the help of `best`.
 fn best_notes(alloc: Global) -> Result<String, AllocError> {
     format!(in alloc;
         "{FEWEST}\n  \
           too many boxes                         The level has more than {MAX_BOXES} boxes.\n\n\
-        {FEWEST_MOVES}\n\n{ALL_LEVELS}\n\n{BEST}"
+        {FEWEST_MOVES}\n\n{ALL_LEVELS}\n\n{PROGRESS}\n\n{BEST}"
     )
 }
 
@@ -286,6 +314,10 @@ pushes. P and S are its pushes and moves:
   not optimal P pushes, S moves, optimal F pushes, T moves
                                          The second line is a solution with F
                                          pushes. No solution has fewer.
+  not optimal .., found F pushes, T moves, limit L .., at least K pushes
+                                         The second line is a solution with F
+                                         pushes and T moves. No solution has
+                                         fewer than K pushes.
   limit L reached, at least K pushes, given P pushes, S moves
                                          Undecided: give a greater --limit. No
                                          solution has fewer than K pushes.";
@@ -308,7 +340,21 @@ if the line begins with 'not', else 4:
   not optimal P pushes, S moves, optimal F pushes, T moves, limit L reached
                                          The second line is a solution with F
                                          pushes. No solution has fewer. The
-                                         moves are undecided.";
+                                         moves are undecided.
+  not optimal .., optimal P pushes, found T moves, limit L reached
+                                         The second line is a solution with P
+                                         pushes and T moves. No solution has
+                                         fewer pushes. The moves are undecided.";
+
+/// The reports on a folder, in the help of `prove`.
+const FOLDER: &str = "\
+With --solutions FOLDER in place of N and SOLUTION, prove goes through FILE, or
+its levels from --from to --to. It prints a line for each level N of which the
+folder has a file N.lurd, as soon as that is decided, and the totals:
+  7 optimal P pushes, S moves            Level 7: as above, on one line.
+  8 cannot read                          The file cannot be opened or read.
+The exit status is 0 if all that have a solution are optimal, else 5 if one ran
+out of memory, else 3 if one cannot be read, else 4 if one is open, else 1.";
 
 /// How `prove` compares with `replay` and `best`, its memory, and examples, in the help of `prove`.
 const PROOF: &str = "\
@@ -320,16 +366,20 @@ A known solution bounds the search: prove usually needs fewer positions than
 they exceed the limit. A position takes as much time and memory as in 'sokopar
 best', and workers and --moves cost as much as there.
 
+With --lurd, prove prints only the better solution that it finds, and nothing if
+it finds none. The exit status is the same.
+
 Examples:
   sokopar prove levels.xsb 1 solution.lurd
   sokopar prove levels.xsb 1 solution.lurd --moves
-  sokopar prove levels.xsb 1 solution.lurd --limit 50000000";
+  sokopar prove levels.xsb 1 solution.lurd --limit 50000000
+  sokopar prove levels.xsb --solutions solutions";
 
 /// The end of the help of `prove`.
 fn prove_notes(alloc: Global) -> Result<String, AllocError> {
     format!(in alloc;
         "{JUDGEMENTS}\n  \
           too many boxes                         The level has more than {MAX_BOXES} boxes.\n\n\
-        {MOVES_JUDGED}\n\n{PROOF}"
+        {MOVES_JUDGED}\n\n{FOLDER}\n\n{PROGRESS}\n\n{PROOF}"
     )
 }

@@ -1,13 +1,17 @@
 //! The program: reads its command line, opens its files and runs an engine.
 #![tactic(auto)]
 
-ghost use Rattle.std.specs.Prelude.{◌≡◌};
-ghost use Rattle.cli.specs.Performing.{Exits, Performs, trouble_status};
+ghost use Rattle.std.specs.Prelude.{◌≡◌, ◌⊎◌, map};
+ghost use Rattle.std.specs.String.{string_bytes};
+ghost use Rattle.clap.specs.Values.{kind_of};
+ghost use Rattle.clap.specs.declared.error.kind.ErrorKind.TheVariants.{OutOfMemory};
+ghost use Rattle.cli.specs.Performing.{Answers, Exits, Performs, trouble_status};
 ghost use Rattle.cli.specs.Requests.{IsInRange};
 
 mod arguments;
 mod commands;
 mod help;
+mod meter;
 mod numbers;
 mod request;
 mod stack;
@@ -17,10 +21,10 @@ mod system;
 mod trouble;
 
 use clap::error::ErrorKind;
-use commands::{best, best_collection, check, dead, prove, replay, show, solve};
+use commands::{best, best_collection, check, dead, prove, prove_collection, replay, show, solve};
 use help::Notes;
 use request::Request;
-use sokopar::RunFault;
+use sokopar::{RunFault, Sink, Writer};
 use std::alloc::Global;
 use std::env::Env;
 use std::process::ExitCode;
@@ -28,55 +32,73 @@ use std::rt::Files;
 use std::sync::Wait;
 use std::thread::Threads;
 use std::{env, io};
+use steady::Steady;
 use system::System;
 use trouble::Trouble;
 
 /// The exit status of a fault of the command line.
 const USAGE: u8 = 2;
 
-/// Opens all files of a request before it reads the first, and runs its engine. Returns the exit status.
-fn perform<'a, R: Threads + Wait + Sync, S: System>(
+/// Opens all files of a request before it reads the first, and runs its engine, which writes its report to the sink.
+/// Returns the exit status.
+fn perform<'a, R: Eprint + Threads + Wait + Sync, S: System, K: Sink>(
     rt: &R,
     system: &S,
     alloc: Global,
     request: Request<'a>,
+    sink: &mut K,
 ) -> Result<u8, Trouble<'a>>
     requires { IsInRange request }
-    ensures { Performs S.opens S.File.seen S.Output.seen request.entry result }
+    ensures { Performs S.opens S.refuses S.File.seen (K.seen sink.old) (K.seen sink.new) request.entry result }
 {
     match request {
-        Request::Check { file } => check(system, alloc, file),
-        Request::Show { file, number } => show(system, alloc, file, number),
-        Request::Dead { file, number } => dead(system, alloc, file, number),
+        Request::Check { file } => check(system, alloc, file, sink),
+        Request::Explain { file, number } => commands::explain(system, alloc, file, number, sink),
+        Request::Show { file, number } => show(system, alloc, file, number, sink),
+        Request::Dead { file, number } => dead(system, alloc, file, number, sink),
         Request::Replay {
             file,
             number,
             solution,
-        } => replay(system, alloc, file, number, solution),
-        Request::Solve { file, search } => solve(rt, system, alloc, file, search),
-        Request::Best { file, search } => best(rt, system, alloc, file, search),
-        Request::BestCollection { file, search } => best_collection(
-            rt, system, alloc, file, search,
-        ),
+        } => replay(system, alloc, file, number, solution, sink),
+        Request::Solve { file, search } => solve(rt, system, alloc, file, search, sink),
+        Request::Best {
+            file,
+            search,
+            progress,
+        } => best(rt, system, alloc, file, search, progress, sink),
+        Request::BestCollection {
+            file,
+            search,
+            progress,
+        } => best_collection(rt, system, alloc, file, search, progress, sink),
         Request::Prove {
             file,
             solution,
             search,
-        } => prove(rt, system, alloc, file, solution, search),
+            progress,
+        } => prove(rt, system, alloc, file, solution, search, progress, sink),
+        Request::ProveCollection {
+            file,
+            folder,
+            search,
+            progress,
+        } => prove_collection(rt, system, alloc, file, folder, search, progress, sink),
     }
 }
 
 /// Performs a request, and prints why if there is no report. Returns the exit status.
-fn carry_out<'a, R: Eprint + Threads + Wait + Sync, S: System>(
+fn carry_out<'a, R: Eprint + Threads + Wait + Sync, S: System, K: Sink>(
     rt: &R,
     system: &S,
     alloc: Global,
     request: Request<'a>,
+    sink: &mut K,
 ) -> u8
     requires { IsInRange request }
-    ensures { Exits S.opens S.File.seen S.Output.seen request.entry result }
+    ensures { Exits S.opens S.refuses S.File.seen (K.seen sink.old) (K.seen sink.new) request.entry result }
 {
-    match perform(rt, system, alloc, request) {
+    match perform(rt, system, alloc, request, sink) {
         Ok(status) => status,
         Err(trouble) => complain(rt, trouble),
     }
@@ -84,7 +106,10 @@ fn carry_out<'a, R: Eprint + Threads + Wait + Sync, S: System>(
 
 /// Prints why a command line is no request: help or the version on standard output, a fault on standard error. Returns
 /// the exit status.
-fn explain<R: Print + Eprint>(rt: &R, error: clap::Error) -> u8 {
+fn explain<R: Print + Eprint>(rt: &R, error: clap::Error) -> u8
+    ensures memory { kind_of error ≡ OutOfMemory → result ≡ 5 }
+    ensures status { (result ≡ 5) ⊎ ((result ≡ 0) ⊎ (result ≡ 2) ⊎ (result ≡ 3)) }
+{
     if error.kind() == ErrorKind::OutOfMemory {
         return complain(rt, Trouble::Run(RunFault::OutOfMemory));
     }
@@ -106,26 +131,36 @@ fn complain<R: Eprint>(rt: &R, trouble: Trouble<'_>) -> u8
 }
 
 /// Carries out the words of the command line, given the last parts of its help texts. Returns the exit status.
-fn answer<R: Files + Print + Eprint + Threads + Wait + Sync>(
+fn answer<R: Print + Eprint + Threads + Wait + Sync, S: System, K: Sink>(
     rt: &R,
+    system: &S,
     alloc: Global,
     words: &[String],
     notes: &Notes,
-) -> u8 {
+    sink: &mut K,
+) -> u8
+    ensures { Answers S.opens S.refuses S.File.seen (K.seen sink.old) (K.seen sink.new) (map string_bytes words.now)
+        result }
+{
     match request::parse(alloc, words, notes) {
-        Ok(request) => carry_out(rt, &rt, alloc, request),
+        Ok(request) => carry_out(rt, system, alloc, request, sink),
         Err(error) => explain(rt, error),
     }
 }
 
-/// Runs the command line of these words. Returns the exit status.
-fn run<R: Files + Print + Eprint + Threads + Wait + Sync>(
+/// Runs the command line of these words, and writes a report to the sink. Returns the exit status.
+fn run<R: Print + Eprint + Threads + Wait + Sync, S: System, K: Sink>(
     rt: &R,
+    system: &S,
     alloc: Global,
     words: &[String],
-) -> u8 {
+    sink: &mut K,
+) -> u8
+    ensures { Answers S.opens S.refuses S.File.seen (K.seen sink.old) (K.seen sink.new) (map string_bytes words.now)
+        result }
+{
     match Notes::new(alloc) {
-        Ok(notes) => answer(rt, alloc, words, &notes),
+        Ok(notes) => answer(rt, system, alloc, words, &notes, sink),
         Err(_) => complain(rt, Trouble::Run(RunFault::OutOfMemory)),
     }
 }
@@ -139,10 +174,27 @@ fn words<R: Env + AllocGlobal>(rt: &R) -> io::Result<Vec<String>> {
     Ok(words)
 }
 
+/// The words without a last `--help` or `-h` after `help`, which clap takes for the name of a subcommand.
+fn without_help_flag(words: &[String]) -> &[String] {
+    let Some((last, others)) = words.split_last() else {
+        return words;
+    };
+    let is_flag = last.as_str() == "--help" || last.as_str() == "-h";
+    if is_flag && others.get(1).is_some_and(|word| word.as_str() == "help") {
+        others
+    } else {
+        words
+    }
+}
+
 /// Reads the words of the command line, and performs them. Returns the exit status.
 fn start<R: Env + Files + Print + Eprint + Threads + Wait + Sync + AllocGlobal>(rt: &R) -> u8 {
     match words(rt) {
-        Ok(words) => run(rt, rt.alloc(), words.as_slice()),
+        Ok(words) => {
+            let mut output = Writer::new(Steady::new(io::writer(rt)));
+            let words = without_help_flag(words.as_slice());
+            run(rt, &rt, rt.alloc(), words, &mut output)
+        }
         Err(error) if error.kind() == io::ErrorKind::OutOfMemory => {
             complain(rt, Trouble::Run(RunFault::OutOfMemory))
         }

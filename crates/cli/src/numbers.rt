@@ -1,6 +1,9 @@
 //! The texts, the numbers and the flags of a command line.
-ghost use Rattle.std.specs.Prelude.{◌≡◌, ◌==◌, ℕ, List, Option, IfOk, OnOk, OnErr, IfSome, IfNone, codes, slice_index};
+ghost use Rattle.std.specs.Prelude.{◌≡◌, ◌==◌, ℕ, false, List, Option, IfOk, OnOk, OnErr, IfSome, IfNone, codes};
+ghost use Rattle.std.specs.Prelude.{slice_index, option_map};
+ghost use Rattle.clap.specs.Walk.{first_of};
 ghost use Rattle.cli.specs.Words.{HasFlag, HasNumber, HasNumberOr, HasText, IsNumber, LacksText, MayHaveNumber};
+ghost use Rattle.cli.specs.Words.{found_in};
 ghost use Rattle.cli.specs.declared.arguments.TheConstants.{MOST};
 
 use crate::arguments::MOST;
@@ -14,8 +17,13 @@ pub(crate) enum BadArgument<'a> {
     Missing {
         argument: &'static str,
     },
-    /// The argument is given beside the number of a level.
-    BesideLevel {
+    /// The argument is given beside one that excludes it.
+    Beside {
+        argument: &'static str,
+        other: &'static str,
+    },
+    /// The argument is given without the number of a level.
+    WithoutLevel {
         argument: &'static str,
     },
     /// The text is no number from the least to the greatest one that the argument accepts.
@@ -27,16 +35,23 @@ pub(crate) enum BadArgument<'a> {
     },
 }
 
+/// The text of the argument with this name, if it has one.
+pub(crate) fn given<'a>(matches: &ArgMatches<'a>, name: &str) -> Option<&'a str>
+    ensures { option_map (λ text. text.now) result ≡ first_of name.now (found_in matches.now) }
+{
+    matches.get_str(name)
+}
+
 /// The text of the argument with this name; `argument` is its name in the usage line.
 pub(crate) fn text_of<'a>(
     matches: &ArgMatches<'a>,
     name: &str,
     argument: &'static str,
 ) -> Result<&'a str, BadArgument<'a>>
-    ensures ok { IfOk result (λ text. HasText matches.now name.now text.now) }
-    ensures err { OnErr result ((text : List ℕ) → ¬ (HasText matches.now name.now text)) }
+    ensures ok { IfOk result (λ text. HasText (found_in matches.now) name.now text.now) }
+    ensures err { OnErr result ((text : List ℕ) → ¬ (HasText (found_in matches.now) name.now text)) }
 {
-    match matches.get_str(name) {
+    match given(matches, name) {
         Some(text) => Ok(text),
         None => Err(BadArgument::Missing { argument }),
     }
@@ -78,8 +93,8 @@ pub(crate) fn number_of<'a>(
     argument: &'static str,
     most: u32,
 ) -> Result<u32, BadArgument<'a>>
-    ensures ok { IfOk result (λ n. HasNumber matches.now name.now most n) }
-    ensures err { OnErr result ((n : ℕ) → ¬ (HasNumber matches.now name.now most n)) }
+    ensures ok { IfOk result (λ n. HasNumber (found_in matches.now) name.now most n) }
+    ensures err { OnErr result ((n : ℕ) → ¬ (HasNumber (found_in matches.now) name.now most n)) }
 {
     let text = text_of(matches, name, argument)?;
     match number_from(text, 1, most) {
@@ -101,37 +116,54 @@ pub(crate) fn number_or<'a>(
     argument: &'static str,
     default: u32,
 ) -> Result<u32, BadArgument<'a>>
-    ensures ok { IfOk result (λ n. HasNumberOr matches.now name.now default MOST n) }
-    ensures err { OnErr result ((n : ℕ) → ¬ (HasNumberOr matches.now name.now default MOST n)) }
+    ensures ok { IfOk result (λ n. HasNumberOr (found_in matches.now) name.now default MOST n) }
+    ensures err { OnErr result ((n : ℕ) → ¬ (HasNumberOr (found_in matches.now) name.now default MOST n)) }
 {
-    let Some(_) = matches.get_str(name) else {
+    let Some(_) = given(matches, name) else {
         return Ok(default);
     };
     number_of(matches, name, argument, MOST)
 }
 
-/// Fails if the argument with this name is given, which the number of a level excludes; `argument` is its name in the
-/// usage line.
+/// Fails if the argument with this name is given, which another one excludes; `argument` and `other` are their names in
+/// the usage line.
 pub(crate) fn lacks<'a>(
     matches: &ArgMatches<'a>,
     name: &str,
     argument: &'static str,
+    other: &'static str,
 ) -> Result<(), BadArgument<'a>>
-    ensures ok { OnOk result (LacksText matches.now name.now) }
-    ensures err { OnErr result (¬ (LacksText matches.now name.now)) }
+    ensures ok { OnOk result (LacksText (found_in matches.now) name.now) }
+    ensures err { OnErr result (¬ (LacksText (found_in matches.now) name.now)) }
 {
-    match matches.get_str(name) {
+    match given(matches, name) {
         None => Ok(()),
-        Some(_) => Err(BadArgument::BesideLevel { argument }),
+        Some(_) => Err(BadArgument::Beside { argument, other }),
+    }
+}
+
+/// Fails if the flag with this name is given, as `bad` says.
+pub(crate) fn lacks_flag<'a>(
+    matches: &ArgMatches<'a>,
+    name: &str,
+    bad: BadArgument<'a>,
+) -> Result<(), BadArgument<'a>>
+    ensures ok { OnOk result (HasFlag (found_in matches.now) name.now false) }
+    ensures err { OnErr result (¬ (HasFlag (found_in matches.now) name.now false)) }
+{
+    match given(matches, name) {
+        Some("true") => Err(bad),
+        _ => Ok(()),
     }
 }
 
 /// The cap on pushes, if `--max-pushes` is given.
 pub(crate) fn cap_of<'a>(matches: &ArgMatches<'a>) -> Result<Option<u32>, BadArgument<'a>>
-    ensures ok { IfOk result (λ cap. MayHaveNumber matches.now (codes "max-pushes") MOST cap) }
-    ensures err { OnErr result ((cap : Option ℕ) → ¬ (MayHaveNumber matches.now (codes "max-pushes") MOST cap)) }
+    ensures ok { IfOk result (λ cap. MayHaveNumber (found_in matches.now) (codes "max-pushes") MOST cap) }
+    ensures err { OnErr result ((cap : Option ℕ) →
+        ¬ (MayHaveNumber (found_in matches.now) (codes "max-pushes") MOST cap)) }
 {
-    let Some(text) = matches.get_str("max-pushes") else {
+    let Some(text) = given(matches, "max-pushes") else {
         return Ok(None);
     };
     match number_from(text, 0, MOST) {
@@ -147,9 +179,9 @@ pub(crate) fn cap_of<'a>(matches: &ArgMatches<'a>) -> Result<Option<u32>, BadArg
 
 /// Whether the flag with this name is given.
 pub(crate) fn has_flag(matches: &ArgMatches<'_>, name: &str) -> bool
-    ensures { HasFlag matches.now name.now result }
+    ensures { HasFlag (found_in matches.now) name.now result }
 {
-    match matches.get_str(name) {
+    match given(matches, name) {
         Some("true") => true,
         _ => false,
     }
@@ -161,8 +193,11 @@ pub(crate) fn words_of(alloc: Global, bad: BadArgument<'_>) -> Result<String, Al
         BadArgument::Missing { argument } => {
             format!(in alloc; "the argument '{argument}' is missing")
         }
-        BadArgument::BesideLevel { argument } => {
-            format!(in alloc; "the argument '{argument}' cannot be used with '[N]'")
+        BadArgument::Beside { argument, other } => {
+            format!(in alloc; "the argument '{argument}' cannot be used with '{other}'")
+        }
+        BadArgument::WithoutLevel { argument } => {
+            format!(in alloc; "the argument '{argument}' cannot be used without '[N]'")
         }
         BadArgument::Number {
             argument,

@@ -1,20 +1,29 @@
 //! The request of a command line.
-ghost use Rattle.std.specs.Prelude.{ℕ, List, IfOk, IfSome, OnErr, codes};
-ghost use Rattle.cli.specs.Requests.{Asks, AsksFor, AsksForLevel, AsksForLevels, AsksToProve, AsksToSolve};
-ghost use Rattle.cli.specs.Requests.{HasSettings, HasSubcommand, IsInRange};
-ghost use Rattle.cli.specs.Words.{HasNumber, HasText, LacksText};
+ghost use Rattle.std.specs.Prelude.{◌≡◌, ◌≢◌, ◌⊎◌, ℕ, List, [], Option, Some, IfOk, IfErr, IfSome, IfNone, OnErr, codes, map};
+ghost use Rattle.std.specs.String.{string_bytes};
+ghost use Rattle.clap.specs.Faults.{fault_of};
+ghost use Rattle.clap.specs.Simple.{subcommand_rows_of};
+ghost use Rattle.clap.specs.Values.{kind_of};
+ghost use Rattle.clap.specs.declared.error.kind.ErrorKind.TheVariants.{OutOfMemory};
+ghost use Rattle.cli.specs.CommandLine.{AreMatchesOf, IsNoRequest, IsRequestOf, program};
+ghost use Rattle.cli.specs.Requests.{Asks, AsksFor, AsksForLevel, AsksForLevels, AsksForNone, AsksForSolutions, AsksToProve};
+ghost use Rattle.cli.specs.Requests.{AsksToSolve, HasSettings, MayHaveLevel};
+ghost use Rattle.cli.specs.Words.{HasNumber, HasText, LacksText, found_in, word_of};
 ghost use Rattle.cli.specs.declared.arguments.TheConstants.{MOST, MOST_WORKERS};
 
 use crate::arguments::{MOST, MOST_LOCKS, MOST_WORKERS};
 use crate::help::Notes;
 use crate::numbers::{
-    BadArgument, cap_of, has_flag, lacks, number_of, number_or, text_of, words_of,
+    BadArgument, cap_of, given, has_flag, lacks, lacks_flag, number_of, number_or, text_of,
+    words_of,
 };
 use crate::subcommands::{Subcommand, command, usage_of};
 use clap::error::ErrorKind;
 use clap::{ArgMatches, Error};
 use crew::Config;
-use sokopar::{BestRequest, CollectionRequest, ProveRequest, SearchConfig, SolveRequest};
+use sokopar::{
+    BestRequest, CollectionRequest, ProveRequest, SearchConfig, SolutionsRequest, SolveRequest,
+};
 use std::alloc::{AllocError, Global};
 
 /// The request of a command line. Levels are counted from 1.
@@ -23,6 +32,11 @@ pub enum Request<'a> {
     /// Check the levels of a collection.
     Check {
         file: &'a str,
+    },
+    /// Explain where and why the levels of a collection, or one of them, are faulty.
+    Explain {
+        file: &'a str,
+        number: Option<u32>,
     },
     /// Show a level of a collection.
     Show {
@@ -49,64 +63,86 @@ pub enum Request<'a> {
     Best {
         file: &'a str,
         search: BestRequest,
+        progress: bool,
     },
     /// Find a solution with the fewest pushes of each level of a part of a collection.
     BestCollection {
         file: &'a str,
         search: CollectionRequest,
+        progress: bool,
     },
     /// Prove that the solution of a file has the fewest pushes on a level of a collection.
     Prove {
         file: &'a str,
         solution: &'a str,
         search: ProveRequest,
+        progress: bool,
+    },
+    /// Prove that each solution of a folder has the fewest pushes on its level of a part of a collection.
+    ProveCollection {
+        file: &'a str,
+        folder: &'a str,
+        search: SolutionsRequest,
+        progress: bool,
     },
 }
 
 /// The path of the collection.
 fn file_of<'a>(matches: &ArgMatches<'a>) -> Result<&'a str, BadArgument<'a>>
-    ensures ok { IfOk result (λ text. HasText matches.now (codes "FILE") text.now) }
-    ensures err { OnErr result ((text : List ℕ) → ¬ (HasText matches.now (codes "FILE") text)) }
+    ensures ok { IfOk result (λ text. HasText (found_in matches.now) (codes "FILE") text.now) }
+    ensures err { OnErr result ((text : List ℕ) → ¬ (HasText (found_in matches.now) (codes "FILE") text)) }
 {
     text_of(matches, "FILE", "<FILE>")
 }
 
 /// The path of the solution.
 fn solution_of<'a>(matches: &ArgMatches<'a>) -> Result<&'a str, BadArgument<'a>>
-    ensures ok { IfOk result (λ text. HasText matches.now (codes "SOLUTION") text.now) }
-    ensures err { OnErr result ((text : List ℕ) → ¬ (HasText matches.now (codes "SOLUTION") text)) }
+    ensures ok { IfOk result (λ text. HasText (found_in matches.now) (codes "SOLUTION") text.now) }
+    ensures err { OnErr result ((text : List ℕ) → ¬ (HasText (found_in matches.now) (codes "SOLUTION") text)) }
 {
     text_of(matches, "SOLUTION", "<SOLUTION>")
 }
 
 /// The number of the level.
 fn level_of<'a>(matches: &ArgMatches<'a>) -> Result<u32, BadArgument<'a>>
-    ensures ok { IfOk result (λ n. HasNumber matches.now (codes "N") MOST n) }
-    ensures err { OnErr result ((n : ℕ) → ¬ (HasNumber matches.now (codes "N") MOST n)) }
+    ensures ok { IfOk result (λ n. HasNumber (found_in matches.now) (codes "N") MOST n) }
+    ensures err { OnErr result ((n : ℕ) → ¬ (HasNumber (found_in matches.now) (codes "N") MOST n)) }
 {
     number_of(matches, "N", "<N>", MOST)
 }
 
+/// The number of the level, if it is given.
+fn level_if_any<'a>(matches: &ArgMatches<'a>) -> Result<Option<u32>, BadArgument<'a>>
+    ensures ok { IfOk result (λ number. MayHaveLevel (found_in matches.now) number) }
+    ensures err { OnErr result ((number : Option ℕ) → ¬ (MayHaveLevel (found_in matches.now) number)) }
+{
+    let Some(_) = given(matches, "N") else {
+        return Ok(None);
+    };
+    let number = level_of(matches)?;
+    Ok(Some(number))
+}
+
 /// The limit of positions.
 fn limit_of<'a>(matches: &ArgMatches<'a>) -> Result<u32, BadArgument<'a>>
-    ensures ok { IfOk result (λ n. HasNumber matches.now (codes "limit") MOST n) }
-    ensures err { OnErr result ((n : ℕ) → ¬ (HasNumber matches.now (codes "limit") MOST n)) }
+    ensures ok { IfOk result (λ n. HasNumber (found_in matches.now) (codes "limit") MOST n) }
+    ensures err { OnErr result ((n : ℕ) → ¬ (HasNumber (found_in matches.now) (codes "limit") MOST n)) }
 {
     number_of(matches, "limit", "--limit <L>", MOST)
 }
 
 /// The number of workers.
 fn workers_of<'a>(matches: &ArgMatches<'a>) -> Result<u32, BadArgument<'a>>
-    ensures ok { IfOk result (λ n. HasNumber matches.now (codes "workers") MOST_WORKERS n) }
-    ensures err { OnErr result ((n : ℕ) → ¬ (HasNumber matches.now (codes "workers") MOST_WORKERS n)) }
+    ensures ok { IfOk result (λ n. HasNumber (found_in matches.now) (codes "workers") MOST_WORKERS n) }
+    ensures err { OnErr result ((n : ℕ) → ¬ (HasNumber (found_in matches.now) (codes "workers") MOST_WORKERS n)) }
 {
     number_of(matches, "workers", "--workers <W>", MOST_WORKERS)
 }
 
 /// The level and the settings of `solve`.
 fn solve_request<'a>(matches: &ArgMatches<'a>) -> Result<SolveRequest, BadArgument<'a>>
-    ensures ok { IfOk result (λ search. AsksToSolve matches.now search) }
-    ensures err { OnErr result ((search : SolveRequest) → ¬ (AsksToSolve matches.now search)) }
+    ensures ok { IfOk result (λ search. AsksToSolve (found_in matches.now) search) }
+    ensures err { OnErr result ((search : SolveRequest) → ¬ (AsksToSolve (found_in matches.now) search)) }
 {
     let number = level_of(matches)?;
     let workers = workers_of(matches)?;
@@ -119,13 +155,18 @@ fn solve_request<'a>(matches: &ArgMatches<'a>) -> Result<SolveRequest, BadArgume
         limit,
         cap,
     };
-    Ok(SolveRequest { number, config })
+    let lurd = has_flag(matches, "lurd");
+    Ok(SolveRequest {
+        number,
+        config,
+        lurd,
+    })
 }
 
 /// The settings of a search of `best`.
 fn settings_of<'a>(matches: &ArgMatches<'a>) -> Result<SearchConfig, BadArgument<'a>>
-    ensures ok { IfOk result (λ config. HasSettings matches.now config) }
-    ensures err { OnErr result ((config : SearchConfig) → ¬ (HasSettings matches.now config)) }
+    ensures ok { IfOk result (λ config. HasSettings (found_in matches.now) config) }
+    ensures err { OnErr result ((config : SearchConfig) → ¬ (HasSettings (found_in matches.now) config)) }
 {
     let workers = workers_of(matches)?;
     let limit = limit_of(matches)?;
@@ -141,62 +182,149 @@ fn settings_of<'a>(matches: &ArgMatches<'a>) -> Result<SearchConfig, BadArgument
 
 /// The level and the settings of `best`, if the number of a level is given.
 fn level_request<'a>(matches: &ArgMatches<'a>) -> Result<BestRequest, BadArgument<'a>>
-    ensures ok { IfOk result (λ search. AsksForLevel matches.now search) }
-    ensures err { OnErr result ((search : BestRequest) → ¬ (AsksForLevel matches.now search)) }
+    ensures ok { IfOk result (λ search. AsksForLevel (found_in matches.now) search) }
+    ensures err { OnErr result ((search : BestRequest) → ¬ (AsksForLevel (found_in matches.now) search)) }
 {
     let number = level_of(matches)?;
-    lacks(matches, "from", "--from <A>")?;
-    lacks(matches, "to", "--to <B>")?;
+    lacks(matches, "from", "--from <A>", "[N]")?;
+    lacks(matches, "to", "--to <B>", "[N]")?;
+    let argument = "--table";
+    let other = "[N]";
+    lacks_flag(matches, "table", BadArgument::Beside { argument, other })?;
     let config = settings_of(matches)?;
-    Ok(BestRequest { number, config })
+    let lurd = has_flag(matches, "lurd");
+    Ok(BestRequest {
+        number,
+        config,
+        lurd,
+    })
 }
 
 /// The range of levels and the settings of `best`, if no number of a level is given.
 fn levels_request<'a>(matches: &ArgMatches<'a>) -> Result<CollectionRequest, BadArgument<'a>>
-    requires { LacksText matches.now (codes "N") }
-    ensures ok { IfOk result (λ search. AsksForLevels matches.now search) }
-    ensures err { OnErr result ((search : CollectionRequest) → ¬ (AsksForLevels matches.now search)) }
+    requires { LacksText (found_in matches.now) (codes "N") }
+    ensures ok { IfOk result (λ search. AsksForLevels (found_in matches.now) search) }
+    ensures err { OnErr result ((search : CollectionRequest) → ¬ (AsksForLevels (found_in matches.now) search)) }
 {
+    let argument = "--lurd";
+    lacks_flag(matches, "lurd", BadArgument::WithoutLevel { argument })?;
     let from = number_or(matches, "from", "--from <A>", 1)?;
     let to = number_or(matches, "to", "--to <B>", MOST)?;
     let config = settings_of(matches)?;
-    Ok(CollectionRequest { from, to, config })
+    let table = has_flag(matches, "table");
+    Ok(CollectionRequest {
+        from,
+        to,
+        table,
+        config,
+    })
 }
 
 #[tactic(auto, using(crate::proofs::Asking::asks_nothing_of_best))]
 /// The request of the arguments of `best` on this collection.
 fn best_request<'a>(file: &'a str, matches: &ArgMatches<'a>) -> Result<Request<'a>, BadArgument<'a>>
-    requires { HasText matches.now (codes "FILE") file.now }
-    ensures ok { IfOk result (λ request. Asks Subcommand.Best matches.now request) }
-    ensures err { OnErr result ((request : Request) → ¬ (Asks Subcommand.Best matches.now request)) }
+    requires { HasText (found_in matches.now) (codes "FILE") file.now }
+    ensures ok { IfOk result (λ request. Asks Subcommand.Best (found_in matches.now) request) }
+    ensures err { OnErr result ((request : Request) → ¬ (Asks Subcommand.Best (found_in matches.now) request)) }
 {
-    match matches.get_str("N") {
+    let progress = has_flag(matches, "progress");
+    match given(matches, "N") {
         Some(_) => {
             let search = level_request(matches)?;
-            Ok(Request::Best { file, search })
+            Ok(Request::Best {
+                file,
+                search,
+                progress,
+            })
         }
         None => {
             let search = levels_request(matches)?;
-            Ok(Request::BestCollection { file, search })
+            Ok(Request::BestCollection {
+                file,
+                search,
+                progress,
+            })
         }
     }
 }
 
 /// The level and the settings of `prove`.
 fn prove_request<'a>(matches: &ArgMatches<'a>) -> Result<ProveRequest, BadArgument<'a>>
-    ensures ok { IfOk result (λ search. AsksToProve matches.now search) }
-    ensures err { OnErr result ((search : ProveRequest) → ¬ (AsksToProve matches.now search)) }
+    requires { LacksText (found_in matches.now) (codes "solutions") }
+    ensures ok { IfOk result (λ search. AsksToProve (found_in matches.now) search) }
+    ensures err { OnErr result ((search : ProveRequest) → ¬ (AsksToProve (found_in matches.now) search)) }
 {
     let number = level_of(matches)?;
     let workers = workers_of(matches)?;
     let limit = limit_of(matches)?;
     let moves = has_flag(matches, "moves");
+    lacks(matches, "from", "--from <A>", "[N]")?;
+    lacks(matches, "to", "--to <B>", "[N]")?;
+    let lurd = has_flag(matches, "lurd");
     Ok(ProveRequest {
         number,
         workers: workers as u8,
         limit,
         moves,
+        lurd,
     })
+}
+
+/// The range of levels and the settings of `prove` for the solutions of a folder.
+fn solutions_request<'a>(matches: &ArgMatches<'a>) -> Result<SolutionsRequest, BadArgument<'a>>
+    ensures ok { IfOk result (λ search. AsksForSolutions (found_in matches.now) search) }
+    ensures err { OnErr result ((search : SolutionsRequest) → ¬ (AsksForSolutions (found_in matches.now) search)) }
+{
+    lacks(matches, "N", "[N]", "--solutions <FOLDER>")?;
+    lacks(matches, "SOLUTION", "[SOLUTION]", "--solutions <FOLDER>")?;
+    let argument = "--lurd";
+    lacks_flag(matches, "lurd", BadArgument::WithoutLevel { argument })?;
+    let from = number_or(matches, "from", "--from <A>", 1)?;
+    let to = number_or(matches, "to", "--to <B>", MOST)?;
+    let workers = workers_of(matches)?;
+    let limit = limit_of(matches)?;
+    let moves = has_flag(matches, "moves");
+    Ok(SolutionsRequest {
+        from,
+        to,
+        workers: workers as u8,
+        limit,
+        moves,
+    })
+}
+
+#[tactic(auto, using(crate::proofs::Asking::asks_nothing_of_prove))]
+/// The request of the arguments of `prove` on this collection.
+fn proof_request<'a>(
+    file: &'a str,
+    matches: &ArgMatches<'a>,
+) -> Result<Request<'a>, BadArgument<'a>>
+    requires { HasText (found_in matches.now) (codes "FILE") file.now }
+    ensures ok { IfOk result (λ request. Asks Subcommand.Prove (found_in matches.now) request) }
+    ensures err { OnErr result ((request : Request) → ¬ (Asks Subcommand.Prove (found_in matches.now) request)) }
+{
+    let progress = has_flag(matches, "progress");
+    match given(matches, "solutions") {
+        Some(folder) => {
+            let search = solutions_request(matches)?;
+            Ok(Request::ProveCollection {
+                file,
+                folder,
+                search,
+                progress,
+            })
+        }
+        None => {
+            let solution = solution_of(matches)?;
+            let search = prove_request(matches)?;
+            Ok(Request::Prove {
+                file,
+                solution,
+                search,
+                progress,
+            })
+        }
+    }
 }
 
 #[tactic(auto, using(crate::proofs::Asking::asks_nothing))]
@@ -205,12 +333,16 @@ fn request_of<'a>(
     subcommand: Subcommand,
     matches: &ArgMatches<'a>,
 ) -> Result<Request<'a>, BadArgument<'a>>
-    ensures ok { IfOk result (λ request. Asks subcommand matches.now request) }
-    ensures err { OnErr result ((request : Request) → ¬ (Asks subcommand matches.now request)) }
+    ensures ok { IfOk result (λ request. Asks subcommand (found_in matches.now) request) }
+    ensures err { OnErr result ((request : Request) → ¬ (Asks subcommand (found_in matches.now) request)) }
 {
     let file = file_of(matches)?;
     match subcommand {
         Subcommand::Check => Ok(Request::Check { file }),
+        Subcommand::Explain => {
+            let number = level_if_any(matches)?;
+            Ok(Request::Explain { file, number })
+        }
         Subcommand::Show => {
             let number = level_of(matches)?;
             Ok(Request::Show { file, number })
@@ -233,15 +365,7 @@ fn request_of<'a>(
             Ok(Request::Solve { file, search })
         }
         Subcommand::Best => best_request(file, matches),
-        Subcommand::Prove => {
-            let solution = solution_of(matches)?;
-            let search = prove_request(matches)?;
-            Ok(Request::Prove {
-                file,
-                solution,
-                search,
-            })
-        }
+        Subcommand::Prove => proof_request(file, matches),
     }
 }
 
@@ -264,15 +388,18 @@ fn missing_subcommand(alloc: Global, notes: &Notes) -> Result<Error, AllocError>
 
 /// The subcommand of the matches of the command line, with its own matches.
 fn chosen<'m, 'a>(matches: &'m ArgMatches<'a>) -> Option<(Subcommand, &'m ArgMatches<'a>)>
-    ensures { IfSome result (λ both. HasSubcommand matches.now both.0 both.1.now) }
+    ensures some { IfSome result (λ both. subcommand_rows_of matches.now ≡ Some (word_of both.0, found_in both.1.now)) }
+    ensures none { IfNone result (AsksForNone (subcommand_rows_of matches.now)) }
 {
     let (word, inner) = matches.subcommand()?;
     Some((Subcommand::named(word)?, inner))
 }
 
-/// The request of the matches of the command line.
+#[tactic(auto, using(crate::proofs::Parsing::refuses))]
+/// The request of the matches of the command line. An error is out of memory, or they ask for no request.
 fn asked<'a>(alloc: Global, matches: &ArgMatches<'a>, notes: &Notes) -> Result<Request<'a>, Error>
-    ensures { IfOk result (λ request. AsksFor matches.now request) }
+    ensures ok { IfOk result (λ request. AsksFor (subcommand_rows_of matches.now) request) }
+    ensures err { IfErr result (λ error. (kind_of error ≡ OutOfMemory) ⊎ AsksForNone (subcommand_rows_of matches.now)) }
 {
     match chosen(matches) {
         Some((subcommand, inner)) => match request_of(subcommand, inner) {
@@ -283,12 +410,86 @@ fn asked<'a>(alloc: Global, matches: &ArgMatches<'a>, notes: &Notes) -> Result<R
     }
 }
 
-#[tactic(auto, using(crate::proofs::Asking::in_range))]
-/// Reads the words of a command line, given the last parts of its help texts. An error has the text for the user, and
-/// says whether help or the version was requested.
-pub fn parse<'a>(alloc: Global, words: &'a [String], notes: &'a Notes) -> Result<Request<'a>, Error>
-    ensures { IfOk result (λ request. IsInRange request) }
+/// What an error of clap says, without the advice to pass an option as an operand and what comes after.
+fn message_of(text: &str) -> Option<&str> {
+    let (message, _) = text.strip_prefix("error: ")?.split_once("\n\nUsage: ")?;
+    match message.split_once("\n\n  tip: to pass ") {
+        Some((start, _)) => Some(start),
+        None => Some(message),
+    }
+}
+
+/// A fault that clap finds in words, with the usage line of the subcommand that they name. `None` if they name none.
+fn retold(
+    alloc: Global,
+    words: &[String],
+    error: &Error,
+    notes: &Notes,
+) -> Result<Option<Error>, AllocError> {
+    let [_, word, ..] = words else {
+        return Ok(None);
+    };
+    let Some(subcommand) = Subcommand::named(word.as_str()) else {
+        return Ok(None);
+    };
+    let text = format!(in alloc; "{error}")?;
+    let Some(message) = message_of(text.as_str()) else {
+        return Ok(None);
+    };
+    let error = usage_of(alloc, subcommand, notes)?.error(error.kind(), message)?;
+    Ok(Some(error))
+}
+
+/// An error of clap; a fault that it finds in words has the usage line of the subcommand that they name.
+fn with_usage(alloc: Global, words: &[String], error: Error, notes: &Notes) -> Error
+    ensures { kind_of error ≡ OutOfMemory → kind_of result ≡ OutOfMemory }
 {
-    let matches = command(alloc, notes)?.try_get_matches_from(words)?;
+    if error.kind() == ErrorKind::OutOfMemory {
+        return error;
+    }
+    if !error.use_stderr() {
+        return error;
+    }
+    match retold(alloc, words, &error, notes) {
+        Ok(Some(better)) => better,
+        Ok(None) => error,
+        Err(lost) => Error::from(lost),
+    }
+}
+
+/// What clap finds in the words of a command line.
+fn found<'a>(alloc: Global, words: &'a [String], notes: &'a Notes) -> Result<ArgMatches<'a>, Error>
+    ensures ok { IfOk result (λ matches. AreMatchesOf (map string_bytes words.now) matches) }
+    ensures err { IfErr result (λ error. (kind_of error ≡ OutOfMemory) ⊎
+        (fault_of program (map string_bytes words.now) ≢ [])) }
+{
+    let line = command(alloc, notes)?;
+    line.try_get_matches_from(words)
+}
+
+/// What clap finds in the words of a command line. An error is out of memory, or clap finds a fault in them, or they
+/// request help or the version.
+fn matches_of<'a>(
+    alloc: Global,
+    words: &'a [String],
+    notes: &'a Notes,
+) -> Result<ArgMatches<'a>, Error>
+    ensures ok { IfOk result (λ matches. AreMatchesOf (map string_bytes words.now) matches) }
+    ensures err { IfErr result (λ error. (kind_of error ≡ OutOfMemory) ⊎
+        (fault_of program (map string_bytes words.now) ≢ [])) }
+{
+    match found(alloc, words, notes) {
+        Ok(matches) => Ok(matches),
+        Err(error) => Err(with_usage(alloc, words, error, notes)),
+    }
+}
+
+/// Reads the words of a command line, given the last parts of its help texts. An error has the text for the user, and
+/// says whether help or the version was requested. It is out of memory, or the words are no request.
+pub fn parse<'a>(alloc: Global, words: &'a [String], notes: &'a Notes) -> Result<Request<'a>, Error>
+    ensures ok { IfOk result (λ request. IsRequestOf (map string_bytes words.now) request) }
+    ensures err { IfErr result (λ error. (kind_of error ≡ OutOfMemory) ⊎ IsNoRequest (map string_bytes words.now)) }
+{
+    let matches = matches_of(alloc, words, notes)?;
     asked(alloc, &matches, notes)
 }

@@ -1,11 +1,10 @@
 //! The subcommands with their arguments.
-ghost use Rattle.std.specs.Prelude.{◌≡◌, ◌≢◌, IfSome, IfNone};
+ghost use Rattle.std.specs.Prelude.{◌≡◌, ◌≢◌, [], IfOk, IfSome, IfNone, fold};
+ghost use Rattle.clap.specs.Simple.{app_of, new_app};
+ghost use Rattle.cli.specs.CommandLine.{arguments_of, bare_program, program, shape_for, with_argument};
 ghost use Rattle.cli.specs.Words.{word_of};
 
-use crate::arguments::{
-    file_operand, from_option, limit_option, locks_option, max_pushes_option, moves_option,
-    number_operand, optional_number_operand, solution_operand, to_option, workers_option,
-};
+use crate::arguments::Argument;
 use crate::help;
 use crate::help::Notes;
 use clap::Command;
@@ -15,6 +14,7 @@ use std::alloc::{AllocError, Global};
 #[derive(Clone, Copy, Debug)]
 pub enum Subcommand {
     Check,
+    Explain,
     Show,
     Dead,
     Replay,
@@ -25,8 +25,9 @@ pub enum Subcommand {
 
 impl Subcommand {
     /// All subcommands, in the order of the help text.
-    const ALL: [Subcommand; 7] = [
+    const ALL: [Subcommand; 8] = [
         Subcommand::Check,
+        Subcommand::Explain,
         Subcommand::Show,
         Subcommand::Dead,
         Subcommand::Replay,
@@ -42,6 +43,7 @@ impl Subcommand {
     {
         match word {
             "check" => Some(Subcommand::Check),
+            "explain" => Some(Subcommand::Explain),
             "show" => Some(Subcommand::Show),
             "dead" => Some(Subcommand::Dead),
             "replay" => Some(Subcommand::Replay),
@@ -58,6 +60,7 @@ impl Subcommand {
     {
         match self {
             Subcommand::Check => "check",
+            Subcommand::Explain => "explain",
             Subcommand::Show => "show",
             Subcommand::Dead => "dead",
             Subcommand::Replay => "replay",
@@ -71,6 +74,7 @@ impl Subcommand {
     fn about<'a>(self) -> &'a str {
         match self {
             Subcommand::Check => "Checks each level",
+            Subcommand::Explain => "Says where and why levels are faulty",
             Subcommand::Show => "Shows a level in plain rows",
             Subcommand::Dead => "Shows walls, goals and dead squares of a level",
             Subcommand::Replay => "Replays a solution on a level",
@@ -85,6 +89,7 @@ impl Subcommand {
     fn notes(self, notes: &Notes) -> Option<&str> {
         match self {
             Subcommand::Check => Some(notes.check.as_str()),
+            Subcommand::Explain => Some(help::EXPLAIN),
             Subcommand::Show => None,
             Subcommand::Dead => Some(help::DEAD),
             Subcommand::Replay => Some(notes.replay.as_str()),
@@ -94,70 +99,95 @@ impl Subcommand {
         }
     }
 
+    /// Its arguments, in the order of the help text.
+    fn arguments(self) -> &'static [Argument]
+        ensures { result.now ≡ arguments_of self }
+    {
+        match self {
+            Subcommand::Check => &[Argument::File],
+            Subcommand::Explain => &[Argument::File, Argument::OptionalNumber],
+            Subcommand::Show | Subcommand::Dead => &[Argument::File, Argument::Number],
+            Subcommand::Replay => &[Argument::File, Argument::Number, Argument::Solution],
+            Subcommand::Solve => &[
+                Argument::File,
+                Argument::Number,
+                Argument::Workers,
+                Argument::Locks,
+                Argument::Limit,
+                Argument::MaxPushes,
+                Argument::Lurd,
+            ],
+            Subcommand::Best => &[
+                Argument::File,
+                Argument::OptionalNumber,
+                Argument::From,
+                Argument::To,
+                Argument::Workers,
+                Argument::Limit,
+                Argument::MaxPushes,
+                Argument::Moves,
+                Argument::Table,
+                Argument::Lurd,
+                Argument::Progress,
+            ],
+            Subcommand::Prove => &[
+                Argument::File,
+                Argument::OptionalNumber,
+                Argument::OptionalSolution,
+                Argument::Solutions,
+                Argument::From,
+                Argument::To,
+                Argument::Workers,
+                Argument::Limit,
+                Argument::Moves,
+                Argument::Lurd,
+                Argument::Progress,
+            ],
+        }
+    }
+
+    /// Its command line without arguments, with the last part of its help text.
+    fn bare_command<'a>(self, alloc: Global, notes: &'a Notes) -> Command<'a>
+        ensures { app_of result ≡ new_app (word_of self) }
+    {
+        let line = Command::new(alloc, self.word()).about(self.about());
+        match self.notes(notes) {
+            Some(text) => line.after_help(text),
+            None => line,
+        }
+    }
+
     /// Its command line, with the last part of its help text.
     pub(crate) fn command<'a>(
         self,
         alloc: Global,
         notes: &'a Notes,
-    ) -> Result<Command<'a>, AllocError> {
-        let line = file_command(alloc, self.word(), self.about(), self.notes(notes))?;
-        match self {
-            Subcommand::Check => Ok(line),
-            Subcommand::Show | Subcommand::Dead => line.arg(number_operand(alloc)),
-            Subcommand::Replay => with_solution(alloc, line),
-            Subcommand::Solve => with_settings(alloc, line),
-            Subcommand::Best => with_search(alloc, line),
-            Subcommand::Prove => with_solution(alloc, line)?
-                .arg(workers_option(alloc))?
-                .arg(limit_option(alloc))?
-                .arg(moves_option(alloc)),
-        }
+    ) -> Result<Command<'a>, AllocError>
+        ensures { IfOk result (λ line. app_of line ≡ record { top = shape_for self; subs = [] }) }
+    {
+        with_arguments(alloc, self.bare_command(alloc, notes), self.arguments())
     }
 }
 
-/// The command line of a subcommand on a collection, with the last part of its help text, if it has one.
-fn file_command<'a>(
+/// A command line with these arguments more.
+fn with_arguments<'a>(
     alloc: Global,
-    word: &'a str,
-    about: &'a str,
-    notes: Option<&'a str>,
-) -> Result<Command<'a>, AllocError> {
-    let bare = Command::new(alloc, word).about(about);
-    let line = match notes {
-        Some(text) => bare.after_help(text),
-        None => bare,
-    };
-    line.arg(file_operand(alloc))
-}
-
-/// A command line with the number of a level and a solution.
-fn with_solution<'a>(alloc: Global, line: Command<'a>) -> Result<Command<'a>, AllocError> {
-    line.arg(number_operand(alloc))?
-        .arg(solution_operand(alloc))
-}
-
-/// A command line with the number of a level and the settings of `solve`.
-fn with_settings<'a>(alloc: Global, line: Command<'a>) -> Result<Command<'a>, AllocError> {
-    line.arg(number_operand(alloc))?
-        .arg(workers_option(alloc))?
-        .arg(locks_option(alloc))?
-        .arg(limit_option(alloc))?
-        .arg(max_pushes_option(alloc))
-}
-
-/// A command line with the number of a level or a range of levels, and the settings of a search of `best`.
-fn with_search<'a>(alloc: Global, line: Command<'a>) -> Result<Command<'a>, AllocError> {
-    line.arg(optional_number_operand(alloc))?
-        .arg(from_option(alloc))?
-        .arg(to_option(alloc))?
-        .arg(workers_option(alloc))?
-        .arg(limit_option(alloc))?
-        .arg(max_pushes_option(alloc))?
-        .arg(moves_option(alloc))
+    command: Command<'a>,
+    arguments: &[Argument],
+) -> Result<Command<'a>, AllocError>
+    ensures { IfOk result (λ line. app_of line ≡ fold with_argument (app_of command.entry) arguments.now) }
+{
+    let mut line = command;
+    for argument in arguments {
+        line = line.arg(argument.arg(alloc))?;
+    }
+    Ok(line)
 }
 
 /// The program's command line without its subcommands.
-fn bare_command<'a>(alloc: Global, notes: &'a str) -> Result<Command<'a>, AllocError> {
+fn bare_command<'a>(alloc: Global, notes: &'a str) -> Result<Command<'a>, AllocError>
+    ensures { IfOk result (λ line. app_of line ≡ bare_program) }
+{
     Ok(
         Command::new(alloc, "sokopar")
             .bin_name("sokopar")?
@@ -169,7 +199,9 @@ fn bare_command<'a>(alloc: Global, notes: &'a str) -> Result<Command<'a>, AllocE
 }
 
 /// The command line of the program, given the last parts of its help texts.
-pub(crate) fn command<'a>(alloc: Global, notes: &'a Notes) -> Result<Command<'a>, AllocError> {
+pub(crate) fn command<'a>(alloc: Global, notes: &'a Notes) -> Result<Command<'a>, AllocError>
+    ensures { IfOk result (λ line. app_of line ≡ program) }
+{
     let mut line = bare_command(alloc, notes.program.as_str())?;
     for subcommand in Subcommand::ALL {
         line = line.subcommand(subcommand.command(alloc, notes)?)?;

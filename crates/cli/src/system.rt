@@ -1,40 +1,74 @@
-ghost use Rattle.std.specs.Prelude.{◌≡◌, ℕ, List, [], IfOk, IfErr, ⊤};
-ghost use Rattle.cli.specs.Performing.{CannotOpen, IsOpened};
+ghost use Rattle.std.specs.Prelude.{◌≡◌, ◌⊎◌, ℕ, List, [], IfOk, IfErr, IfSome, ⊤};
+ghost use Rattle.cli.specs.Performing.{CannotOpen, IsOpened, gives_any};
 
 use crate::steady::Steady;
 use crate::trouble::Trouble;
-use sokopar::{Reader, RunFault, Sink, Source, Writer};
-use std::io::Printer;
+use sokopar::{Folder, Reader, RunFault, Source};
+use std::alloc::Global;
 use std::rt::Files;
 use std::{fs, io};
 
-/// Where the program finds its files, and where it writes its report.
+/// Where the program finds its files.
 pub(crate) trait System {
     type File: Source + Drop;
-
-    type Output: Sink + Drop;
 
     // what holds of a file that opening a path gave
     ghost opens: { List ℕ → Self.File → Type 0 };
 
+    // what holds of a path whose opening failed
+    ghost refuses: { List ℕ → Type 0 };
+
     /// Opens the file at a path.
     fn open<'a>(&self, path: &'a str) -> Result<Self::File, Trouble<'a>>
         ensures ok { IfOk result (λ file. IsOpened opens Self.File.seen path.now file) }
-        ensures err { IfErr result (λ trouble. CannotOpen path.now trouble) };
+        ensures err { IfErr result (λ trouble. CannotOpen refuses path.now trouble) };
 
-    /// The output for one report.
-    fn output(&self) -> Self::Output
-        ensures { (Self.Output.seen result).acts ≡ [] };
+    /// Opens the file at a path; `None` if there is no such file. Fails with [`RunFault::Read`] if it cannot be opened,
+    /// or if out of memory.
+    fn open_if_any(&self, path: &str) -> Result<Option<Self::File>, RunFault>
+        ensures fresh { IfOk result (λ file. IfSome file (λ file. (Self.File.seen file).acts ≡ [])) }
+        ensures fault { IfErr result (λ fault. (fault ≡ RunFault.OutOfMemory) ⊎ (fault ≡ RunFault.Read)) };
 }
 
-/// The files and the standard output of the system. Nothing is known of a file that opening a path gave: std promises
-/// nothing of it.
-impl<'a, R: Files + Print> System for &'a R {
+/// The solutions of a folder: that of level N is the file `N.lurd`.
+#[derive(Drop)]
+pub(crate) struct Solutions<'s, S> {
+    system: &'s S,
+    alloc: Global,
+    folder: &'s str,
+}
+
+impl<'s, S: System> Solutions<'s, S> {
+    /// The solutions in the folder at a path.
+    pub(crate) fn new(system: &'s S, alloc: Global, folder: &'s str) -> Solutions<'s, S> {
+        Solutions {
+            system,
+            alloc,
+            folder,
+        }
+    }
+}
+
+impl<'s, S: System> Folder for Solutions<'s, S> {
+    type File = S::File;
+
+    ghost opened = { λ _. gives_any };
+
+    fn open(&self, number: u32) -> Result<Option<S::File>, RunFault> {
+        let folder = self.folder;
+        let path = format!(in self.alloc; "{folder}/{number}.lurd")?;
+        self.system.open_if_any(path.as_str())
+    }
+}
+
+/// The files of the system. Nothing is known of a file that opening a path gave, or of a path whose opening failed: std
+/// promises nothing of them.
+impl<R: Files> System for &R {
     type File = Reader<Steady<R::File>>;
 
-    type Output = Writer<Steady<Printer<'a, R>>>;
-
     ghost opens = { λ _ _. ⊤ };
+
+    ghost refuses = { λ _. ⊤ };
 
     fn open<'b>(&self, path: &'b str) -> Result<Reader<Steady<R::File>>, Trouble<'b>> {
         match fs::open(*self, path) {
@@ -46,7 +80,14 @@ impl<'a, R: Files + Print> System for &'a R {
         }
     }
 
-    fn output(&self) -> Writer<Steady<Printer<'a, R>>> {
-        Writer::new(Steady::new(io::writer(*self)))
+    fn open_if_any(&self, path: &str) -> Result<Option<Reader<Steady<R::File>>>, RunFault> {
+        match fs::open(*self, path) {
+            Ok(file) => Ok(Some(Reader::new(Steady::new(file)))),
+            Err(error) => match error.kind() {
+                io::ErrorKind::NotFound => Ok(None),
+                io::ErrorKind::OutOfMemory => Err(RunFault::OutOfMemory),
+                _ => Err(RunFault::Read),
+            },
+        }
     }
 }

@@ -135,7 +135,7 @@ impl Choice {
             return true;
         }
         if self.sketch.never_helps(ground, place, dir)
-            || self.sketch.freezes(ground, self.held, place, dir)
+            || self.sketch.may_freeze(ground, self.held, place, dir)
         {
             return true;
         }

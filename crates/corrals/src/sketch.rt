@@ -1,9 +1,10 @@
-//! A position as numbers: its boxes, the rooms that the player does not reach, and what is beside each box. It has no
-//! contract.
+//! A position as numbers: its boxes, the rooms that the player does not reach, and what is beside each box and holds
+//! it. It has no contract.
 
 ghost use Rattle.std.specs.Prelude.{◌<◌};
 
 use crate::ground::Ground;
+use crate::stuck::Holders;
 use grid::{Dir, MAX_BOXES, Square};
 use std::alloc::{AllocError, Global};
 
@@ -39,8 +40,9 @@ pub(crate) enum Beside {
 
 /// The boxes and the rooms of a position. `codes` says what is on each square. `squares` lists the rooms one after the
 /// other; a room has those from `starts` to `ends`. `around` has the boxes around each room, `goals` the rooms with
-/// goals and `off_goal` the boxes off goal, all as bits. `beside` has the codes of the four squares beside each box. A
-/// bit of `asked` says that it is known whether a push of a box never helps, the bit of `useless` that it never does.
+/// goals and `off_goal` the boxes off goal, all as bits. `beside` has the codes of the four squares beside each box,
+/// and `holders` what holds it. A bit of `asked` says that it is known whether a push of a box never helps, the bit of
+/// `useless` that it never does.
 #[derive(Debug, Drop)]
 pub(crate) struct Sketch {
     codes: Vec<u8>,
@@ -54,6 +56,7 @@ pub(crate) struct Sketch {
     boxes: [Square; MAX_BOXES],
     off_goal: u64,
     beside: [u8; SIDES],
+    holders: [Holders; MAX_BOXES],
     asked: [u8; MAX_BOXES],
     useless: [u8; MAX_BOXES],
 }
@@ -85,6 +88,7 @@ impl Sketch {
             boxes: [Square(0); MAX_BOXES],
             off_goal: 0,
             beside: [NOTHING; SIDES],
+            holders: [Holders::default(); MAX_BOXES],
             asked: [0; MAX_BOXES],
             useless: [0; MAX_BOXES],
         })
@@ -97,6 +101,7 @@ impl Sketch {
         self.put_boxes(ground);
         self.find_rooms(ground);
         self.look_round(ground);
+        self.find_holders(ground);
     }
 
     /// The number of boxes.
@@ -160,6 +165,11 @@ impl Sketch {
                 }
             }
         }
+    }
+
+    /// What holds a box.
+    pub(crate) fn holders(&self, place: usize) -> &Holders {
+        &self.holders[place % MAX_BOXES]
     }
 
     /// Whether a push of a box never helps. Each answer is computed once.
@@ -333,6 +343,14 @@ impl Sketch {
             REACHED
         } else {
             NOTHING
+        }
+    }
+
+    // Enters what holds each box.
+    fn find_holders(&mut self, ground: &Ground<'_>) {
+        for place in 0..self.count() {
+            let holders = Holders::of(self, ground, self.square(place));
+            self.holders[place % MAX_BOXES] = holders;
         }
     }
 }

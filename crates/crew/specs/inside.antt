@@ -8,4 +8,3 @@ pub mod Handing
 pub mod Iterations
 pub mod Sharing
 pub mod States
-pub mod Segmented

@@ -11,11 +11,10 @@ ghost use Rattle.solo.specs.inside.Searched.{IsExamined};
 use crate::closing::finish_all;
 use crate::config::Config;
 use crate::gate::Gate;
-use crate::joining::join_layer;
 use crate::lent::{come_back, lend};
 use crate::settings::{SearchState, Settings};
 use layers::{Book, Layer};
-use solo::{Answer, Search, begin_each};
+use solo::{Answer, Search, begin_each, last_layer};
 use std::alloc::AllocError;
 use std::mem::replace;
 use std::sync::Wait;
@@ -48,8 +47,7 @@ pub(crate) fn iterate<R: Threads + Wait + Sync, G: Gate + Sync>(
     ensures desks { state.new.desks ≡ state.old.desks }
 {
     let memory = replace(&mut state.memory, Vec::new(settings.alloc));
-    let workers = settings.config.workers;
-    let layer = join_layer(rt, settings.alloc, books.as_slice(), workers, memory)?;
+    let layer = last_layer(settings.alloc, books.as_slice(), memory)?;
     if let Some(answer) = state.search.look(&layer)? {
         return Ok(IterationEnd::Found(answer));
     }

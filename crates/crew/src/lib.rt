@@ -2,8 +2,8 @@
 //! ledger without locks, and share the books of the level, each behind a lock of its own. The answer does not depend on
 //! the numbers of workers and locks (proved).
 //!
-//! Use it from about 100,000 positions on: a worker's thread costs more than a small layer. Four workers take a third
-//! to a half of the time of one.
+//! Use it from about 100,000 positions on: a worker's thread costs more than a small layer. From a million positions on
+//! four workers over four locks are about twice as fast as one.
 //!
 //! With the `level` of a room of three rows of three squares, the box in the middle, its goal at the top left and the
 //! player at the bottom right:
@@ -30,7 +30,6 @@ mod gate;
 mod handing;
 mod held;
 mod iteration;
-mod joining;
 mod lent;
 mod locking;
 mod search;

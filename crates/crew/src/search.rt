@@ -14,7 +14,7 @@ use crate::gate::Gate;
 use crate::iteration::{IterationEnd, iterate};
 use crate::settings::{SearchState, Settings};
 use grid::{Level, MAX_BOXES};
-use layers::{Book, Dealing, Problem};
+use layers::{Book, Problem};
 use solo::{Answer, Search, SolveFault, solve_alone};
 use std::alloc::{AllocError, Global};
 use std::sync::{Arc, Wait};
@@ -73,7 +73,8 @@ fn search<R: Threads + Wait + Sync, G: Gate + Sync>(
     search_by(rt, alloc, &problem, config, gate)
 }
 
-// The same for a problem.
+// The answer that the layers of a problem give. `None` if other books came back than those lent. Fails only if out of
+// memory.
 fn search_by<R: Threads + Wait + Sync, G: Gate + Sync>(
     rt: &R,
     alloc: Global,
@@ -87,11 +88,7 @@ fn search_by<R: Threads + Wait + Sync, G: Gate + Sync>(
 {
     let mut search = Search::new(alloc, problem, config.limit)?;
     // the caller hands back under a number of its own, so the books are made for one more worker
-    let dealing = Dealing {
-        workers: config.workers + 1,
-        shares: config.locks,
-    };
-    let books = search.new_books(dealing)?;
+    let books = search.new_books(config.workers + 1, config.locks)?;
     let state = SearchState {
         search,
         memory: Vec::new(alloc),

@@ -97,7 +97,7 @@ pub(crate) fn work_at<'a, R: Wait, G: Gate>(
     work_enrolled(&own, drawer, scratch, parcels)
 }
 
-// The same once the drawer has its place. Without capacity for parcels the worker makes one on the stack.
+// Works on a layer as [`work`] does, once the drawer has its place.
 fn work_enrolled<'a, R: Wait, G: Gate>(
     worker: &Worker<'_, '_, '_, 'a, R, G>,
     drawer: &mut Drawer,
@@ -120,12 +120,37 @@ fn work_enrolled<'a, R: Wait, G: Gate>(
     };
     append_parcels(shared, rank, scratch, parcels);
     if parcels.is_empty() {
-        let mut own = [expand_over(shared.problem, shared.layer, rank, scratch)];
-        return by_batches(worker, drawer, scratch, &mut nth, &mut own);
+        return with_own_parcel(worker, drawer, scratch, &mut nth, rank);
     }
     let parcels = parcels.as_mut_slice();
     expand_each(shared, slice::from_ref(&rank), scratch, parcels);
     by_batches(worker, drawer, scratch, &mut nth, parcels)
+}
+
+// Works as [`by_batches`] does, with one parcel on the stack, that of a rank. Only a worker without memory for parcels
+// takes this large stack frame.
+#[inline(never)]
+fn with_own_parcel<R: Wait, G: Gate>(
+    worker: &Worker<'_, '_, '_, '_, R, G>,
+    drawer: &mut Drawer,
+    scratch: &mut Scratch,
+    nth: &mut u64,
+    rank: u64,
+) -> End
+    requires ready { IsEquipped worker.now.shared.now worker.now.number scratch.old drawer.old }
+    requires within { rank < length worker.now.shared.now.layer.places }
+    ensures ends { HasEnded G.may_stop worker.now.shared.now.layer worker.now.shared.now.workers worker.now.number
+        drawer.new.hand result }
+    ensures gate { (hand : Hand) → HasLeft (G.may_answer worker.now.gate.now worker.now.shared.now.layer.number
+        worker.now.number) worker.now.shared.now.books 1 hand drawer.old.hand nth.old → AsksTheGate (G.may_answer
+        worker.now.gate.now worker.now.shared.now.layer.number worker.now.number) worker.now.shared.now.books hand
+        drawer.new.hand result }
+    ensures ledger { drawer.new.ledger ≡ worker.now.shared.now.ledger }
+    ensures size { scratch.new.size ≡ scratch.old.size }
+{
+    let shared = worker.shared;
+    let mut own = [expand_over(shared.problem, shared.layer, rank, scratch)];
+    by_batches(worker, drawer, scratch, nth, &mut own)
 }
 
 // Hands back the first parcel, and then draws batch after batch and hands back the parcels of each.

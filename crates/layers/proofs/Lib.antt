@@ -10,6 +10,5 @@ pub mod Histories
 pub mod Ordered
 pub mod Merged
 pub mod Joined
-pub mod Segments
 pub mod Expanded
 pub mod Marking

@@ -1,4 +1,4 @@
-ghost use Rattle.std.specs.Prelude.{◌≡◌, ◌↔◌, ℕ, IsTrue, IfOk, IfSome, MatchOption, MatchResult, ◌≤◌, Some, ◌∷◌, []};
+ghost use Rattle.std.specs.Prelude.{◌≡◌, ◌↔◌, ℕ, IsTrue, IfOk, MatchOption, MatchResult, ◌≤◌, Some, ◌∷◌, []};
 ghost use Rattle.std.specs.Prelude.{map, slice_get};
 ghost use Rattle.grid.specs.Lawful.{box_count};
 ghost use Rattle.layers.specs.declared.limits.TheConstants.{MOST_POSITIONS};
@@ -6,13 +6,12 @@ ghost use Rattle.successors.specs.Reaching.{total};
 ghost use Rattle.std.specs.Bool.{MatchBool};
 ghost use Rattle.layers.specs.BookView.{AreLawfulBooks, last_layer, last_list};
 ghost use Rattle.layers.specs.Books.{AreAllShares, IsJoinOf, IsShareBeside, JoinRefused};
-ghost use Rattle.layers.specs.inside.Merging.{AreKeptOrTaken, AreMerged, IsSegmentOf};
+ghost use Rattle.layers.specs.inside.Merging.{AreMerged};
 
 use crate::book::{Book, last_start};
 use crate::fault::JoinFault;
 use crate::layer::Layer;
 use crate::merging::merge;
-use crate::segment::{Segment, concatenate};
 use grid::{MAX_BOXES, Square};
 use std::alloc::{AllocError, Global};
 use std::sync::Arc;
@@ -27,8 +26,8 @@ impl Layer {
         Layer::join_in(alloc, books, Vec::new(alloc))
     }
 
-    /// The same; the squares reuse the memory of an earlier layer ([`Parents::of`](crate::Parents::of)), so that a
-    /// search does not allocate for each layer.
+    /// The layer that [`Layer::join`] gives. Its squares reuse the memory of an earlier layer
+    /// ([`Parents::of`](crate::Parents::of)), so that a search does not allocate for each layer.
     pub fn join_in(alloc: Global, books: &[Book], memory: Vec<Square>) -> Result<Layer, JoinFault>
         ensures { MatchResult result (λ layer. IsJoinOf books.now layer) (λ fault. JoinRefused books.now fault) }
     {
@@ -36,28 +35,6 @@ impl Layer {
             return Err(JoinFault::NotWhole);
         };
         Ok(join_all(alloc, books, first, memory)?)
-    }
-
-    /// The layer that [`Layer::join`] gives. It is made of its segments if these are merged and complete, and otherwise
-    /// of the books. The errors are those of [`Layer::join`]. [`JoinFault::NotWhole`] leaves the segments unchanged;
-    /// otherwise each of them is unchanged or empty.
-    pub fn join_segments(
-        alloc: Global,
-        books: &[Book],
-        segments: &mut [Segment],
-    ) -> Result<Layer, JoinFault>
-        requires { (i : ℕ) (s : Segment) → slice_get segments.old i ≡ Some s → IsSegmentOf books.now s }
-        ensures layer { MatchResult result (λ layer. IsJoinOf books.now layer) (λ fault. JoinRefused books.now fault) }
-        ensures segments { AreKeptOrTaken segments.old segments.new }
-        ensures not_whole { ¬ (AreAllShares books.now) → segments.new ≡ segments.old }
-    {
-        let Some(first) = first_of_all(books) else {
-            return Err(JoinFault::NotWhole);
-        };
-        match join_merged(alloc, books, first, segments) {
-            Ok(Some(layer)) => Ok(layer),
-            _ => Layer::join(alloc, books),
-        }
     }
 }
 
@@ -106,26 +83,6 @@ fn join_all(
     layer_of(books, first, rows)
 }
 
-// The same from segments, if these are merged and complete.
-fn join_merged(
-    alloc: Global,
-    books: &[Book],
-    first: &Book,
-    segments: &mut [Segment],
-) -> Result<Option<Layer>, AllocError>
-    requires first { slice_get books.now 0 ≡ Some first.now }
-    requires all { AreAllShares books.now }
-    requires segments { (i : ℕ) (s : Segment) → slice_get segments.old i ≡ Some s → IsSegmentOf books.now s }
-    ensures layer { IfOk result (λ found. IfSome found (λ layer. IsJoinOf books.now layer)) }
-    ensures segments { AreKeptOrTaken segments.old segments.new }
-{
-    tell_all(books);
-    match concatenate(alloc, books, segments)? {
-        Some(rows) => Ok(Some(layer_of(books, first, rows)?)),
-        None => Ok(None),
-    }
-}
-
 // The last closed layer of all the shares, of which `first` is the first, from the number of its positions, their
 // squares and their origins.
 fn layer_of(
@@ -170,7 +127,7 @@ fn merged_rows(
 }
 
 // A lemma: the invariant of each book. It does nothing.
-pub(crate) fn tell_all(books: &[Book])
+fn tell_all(books: &[Book])
     ensures { AreLawfulBooks books.now }
 {
     for index in 0..books.len() {

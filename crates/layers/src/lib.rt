@@ -29,14 +29,11 @@ mod making;
 mod marks;
 mod merging;
 mod parents;
-mod segment;
 
 pub use book::{Book, Claim, Closed};
 pub use expanding::{expand, expand_over, expand_over_into};
 pub use fault::{BeginFault, BookFault, CloseFault, JoinFault, Refusal};
 pub use layer::Layer;
 pub use limits::{MAX_WORKERS, MOST_POSITIONS};
-pub use making::Dealing;
 pub use parents::Parents;
-pub use segment::Segment;
 pub use successors::{MAX_SHARES, Parcel, Problem, Successor};

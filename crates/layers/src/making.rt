@@ -22,14 +22,6 @@ use std::sync::Arc;
 use store::Found;
 use successors::{MAX_SHARES, Problem, share_of};
 
-/// The number of workers, 1 to [`MAX_WORKERS`](crate::MAX_WORKERS) + 1, and the number of shares to which the positions
-/// of a level are dealt, 1 to [`MAX_SHARES`].
-#[derive(Clone, Copy, PartialEq, Eq, Debug)]
-pub struct Dealing {
-    pub workers: u8,
-    pub shares: u8,
-}
-
 impl Book {
     /// A book of a share of the level's positions, with layer 0 closed. That layer is empty if the start is doomed, if
     /// its lone boxes need more pushes than the cap, or if it is of another share. The limit is at least 1, there are 1
@@ -58,26 +50,26 @@ impl Book {
         let Some(start) = Position::start(&level) else {
             return Err(BookFault::TooManyBoxes);
         };
-        let dealing = Dealing { workers, shares };
-        Ok(Book::of_share(alloc, &level, cap, &start, limit, dealing, share)?)
+        Ok(Book::of_share(alloc, &level, cap, &start, limit, workers, share, shares)?)
     }
 
-    /// The books of all shares of the positions of a problem, share 0 first, each as [`Book::of`] makes it. They
-    /// share the problem. Fails with [`BookFault::TooManyBoxes`] if the level has more than
+    /// The books of all `shares` shares of the positions of a problem, share 0 first, each as [`Book::of`] makes it.
+    /// They share the problem. Fails with [`BookFault::TooManyBoxes`] if the level has more than
     /// [`MAX_BOXES`](grid::MAX_BOXES) boxes, and with [`BookFault::OutOfMemory`].
     pub fn of_all_shares(
         alloc: Global,
         problem: &Arc<Problem>,
         limit: u32,
-        dealing: Dealing,
+        workers: u8,
+        shares: u8,
         scratch: &mut Scratch,
     ) -> Result<Vec<Book>, BookFault>
         requires limit { 1 ≤ limit }
-        requires workers { (1 ≤ dealing.workers) × (dealing.workers ≤ MAX_WORKERS + 1) }
-        requires shares { (1 ≤ dealing.shares) × (dealing.shares ≤ MAX_SHARES) }
+        requires workers { (1 ≤ workers) × (workers ≤ MAX_WORKERS + 1) }
+        requires shares { (1 ≤ shares) × (shares ≤ MAX_SHARES) }
         requires room { scratch.old.size ≡ length (arc_value problem.now).board.cells }
         ensures ok { IfOk result
-            (λ books. AreNewShares (arc_value problem.now) limit dealing.workers dealing.shares books.items) }
+            (λ books. AreNewShares (arc_value problem.now) limit workers shares books.items) }
         ensures variant { MatchResult result (λ books. box_count (arc_value problem.now).board ≤ MAX_BOXES)
             (λ fault. BookRefused (arc_value problem.now).board fault) }
         ensures size { scratch.new.size ≡ scratch.old.size }
@@ -89,7 +81,7 @@ impl Book {
             return Err(BookFault::TooManyBoxes);
         };
         let first = first_position(problem, &start, scratch);
-        Ok(all_with_first(alloc, problem, &first, limit, dealing)?)
+        Ok(all_with_first(alloc, problem, &first, limit, workers, shares)?)
     }
 
     // A book of a share of the level's positions from its start, with a new problem. Fails only if out of memory.
@@ -99,21 +91,22 @@ impl Book {
         cap: Option<u32>,
         position: &Position,
         limit: u32,
-        dealing: Dealing,
+        workers: u8,
         share: u8,
+        shares: u8,
     ) -> Result<Book, AllocError>
-        requires bounds { AreBounds limit dealing.workers share dealing.shares }
+        requires bounds { AreBounds limit workers share shares }
         requires few { box_count (arc_value level.now) ≤ MAX_BOXES }
         requires start { position.now ≡ start (arc_value level.now) }
         requires fits { FitsLevel (arc_value level.now) position.now }
         ensures { IfOk result
-            (λ book. IsNewBook (capped (arc_value level.now) cap) limit dealing.workers share dealing.shares book) }
+            (λ book. IsNewBook (capped (arc_value level.now) cap) limit workers share shares book) }
     {
         let problem = Problem::of(alloc, level, cap)?;
         let problem = Arc::new(alloc, problem)?;
         let mut scratch = Scratch::new(alloc, level)?;
         let first = first_position(&problem, position, &mut scratch);
-        Book::with_first(alloc, problem, &first, limit, dealing, share)
+        Book::with_first(alloc, problem, &first, limit, workers, share, shares)
     }
 
     // A book whose layer 0 has the first position of the problem, if there is one and it is of the share. Fails only if
@@ -123,25 +116,26 @@ impl Book {
         problem: Arc<Problem>,
         first: &Option<Position>,
         limit: u32,
-        dealing: Dealing,
+        workers: u8,
         share: u8,
+        shares: u8,
     ) -> Result<Book, AllocError>
-        requires bounds { AreBounds limit dealing.workers share dealing.shares }
+        requires bounds { AreBounds limit workers share shares }
         requires few { box_count (arc_value problem).board ≤ MAX_BOXES }
         requires first { IsFirst (arc_value problem) first.now }
-        ensures { IfOk result (λ book. IsNewBook (arc_value problem) limit dealing.workers share dealing.shares book) }
+        ensures { IfOk result (λ book. IsNewBook (arc_value problem) limit workers share shares book) }
     {
         problem.tell();
-        let tallies = first_tallies(alloc, dealing.workers)?;
+        let tallies = first_tallies(alloc, workers)?;
         let mut starts = Vec::new(alloc);
         starts.resize(1, 0)?;
-        let found = found_of_share(alloc, &problem, first, share, dealing.shares)?;
+        let found = found_of_share(alloc, &problem, first, share, shares)?;
         Ok(Book {
             problem,
             limit,
-            workers: dealing.workers,
+            workers,
             share,
-            shares: dealing.shares,
+            shares,
             found,
             starts,
             begun: false,
@@ -161,20 +155,21 @@ fn all_with_first(
     problem: &Arc<Problem>,
     first: &Option<Position>,
     limit: u32,
-    dealing: Dealing,
+    workers: u8,
+    shares: u8,
 ) -> Result<Vec<Book>, AllocError>
     requires limit { 1 ≤ limit }
-    requires workers { (1 ≤ dealing.workers) × (dealing.workers ≤ MAX_WORKERS + 1) }
-    requires shares { (1 ≤ dealing.shares) × (dealing.shares ≤ MAX_SHARES) }
+    requires workers { (1 ≤ workers) × (workers ≤ MAX_WORKERS + 1) }
+    requires shares { (1 ≤ shares) × (shares ≤ MAX_SHARES) }
     requires few { box_count (arc_value problem.now).board ≤ MAX_BOXES }
     requires first { IsFirst (arc_value problem.now) first.now }
     ensures { IfOk result
-        (λ books. AreNewShares (arc_value problem.now) limit dealing.workers dealing.shares books.items) }
+        (λ books. AreNewShares (arc_value problem.now) limit workers shares books.items) }
 {
-    let mut books = Vec::with_capacity(alloc, dealing.shares as usize)?;
-    for share in 0..dealing.shares {
+    let mut books = Vec::with_capacity(alloc, shares as usize)?;
+    for share in 0..shares {
         let problem = Arc::try_clone(problem)?;
-        let book = Book::with_first(alloc, problem, first, limit, dealing, share)?;
+        let book = Book::with_first(alloc, problem, first, limit, workers, share, shares)?;
         books.push(book)?;
     }
     Ok(books)

@@ -1,12 +1,11 @@
 //! Merges the last closed lists of the books of several shares into one, by their origins.
-ghost use Rattle.std.specs.Prelude.{◌≡◌, ◌<◌, ◌≤◌, ◌∷◌, List, IfOk, IfSome, MatchOption, OnOk, drop, length, map};
-ghost use Rattle.std.specs.Prelude.{slice_index_or, true};
+ghost use Rattle.std.specs.Prelude.{◌≡◌, ◌<◌, ◌≤◌, ◌∷◌, List, IfOk, MatchOption, OnOk, length, map};
 ghost use Rattle.layers.specs.declared.limits.TheConstants.{MOST_POSITIONS};
 ghost use Rattle.successors.specs.Reaching.{total};
 ghost use Rattle.store.specs.Entries.{Closed};
 ghost use Rattle.layers.specs.BookView.{last_list};
 ghost use Rattle.store.specs.inside.Copies.{IsCopied};
-ghost use Rattle.layers.specs.inside.Merging.{AreMerged, HasLeastFirst, first_origin, left_of};
+ghost use Rattle.layers.specs.inside.Merging.{AreMerged, HasLeastFirst, first_origin};
 
 use crate::book::{Book, last_start};
 use grid::{MAX_BOXES, Square};
@@ -16,7 +15,7 @@ use store::{Found, Origin, recycled};
 
 /// The rest of a book's last closed list during a merge.
 #[derive(Drop)]
-pub(crate) struct Rest<'a> {
+struct Rest<'a> {
     found: &'a Found,
     // the index of the first position of the rest, the end of the list, and the first one's origin
     index: usize,
@@ -39,17 +38,15 @@ impl<'a> Model for Rest<'a> {
 }
 
 impl<'a> Rest<'a> {
-    // The rest of the last closed list without its first `taken` positions.
-    fn of(book: &'a Book, taken: usize) -> Rest<'a>
-        ensures { result ≡ drop taken (last_list book.now) }
+    // The last closed list, all of it.
+    fn of(book: &'a Book) -> Rest<'a>
+        ensures { result ≡ last_list book.now }
     {
-        let from = last_start(book.starts.as_slice());
-        let end = book.found.closed_len();
-        let index = from + taken.min(end - from);
+        let index = last_start(book.starts.as_slice());
         Rest {
             found: &book.found,
             index,
-            end,
+            end: book.found.closed_len(),
             first: book.found.origin_at(index),
         }
     }
@@ -69,7 +66,7 @@ impl<'a> Rest<'a> {
     }
 
     // Copies the first position and removes it from the rest. Fails only if out of memory.
-    pub(crate) fn take(
+    fn take(
         &mut self,
         squares: &mut Vec<Square>,
         origins: &mut Vec<Origin>,
@@ -97,7 +94,7 @@ pub(crate) fn merge(
     requires few { total (map last_list books.now) ≤ MOST_POSITIONS }
     ensures { IfOk result (λ r. AreMerged (map last_list books.now) r.0 r.1.items r.2.items) }
 {
-    let mut rests = rests_of(alloc, books, &[])?;
+    let mut rests = rests_of(alloc, books)?;
     let count = count_all(rests.as_slice());
     let mut squares = recycled(alloc, memory, count.saturating_mul(boxes + 1))?;
     let mut origins = Vec::with_capacity(alloc, count)?;
@@ -107,34 +104,19 @@ pub(crate) fn merge(
     Ok((count, squares, origins))
 }
 
-// The rest of the last closed list of each book without its first `taken` positions; all of it if there is no number
-// for the book. Fails only if out of memory.
-pub(crate) fn rests_of<'a>(
-    alloc: Global,
-    books: &'a [Book],
-    taken: &[usize],
-) -> Result<Vec<Rest<'a>>, AllocError>
-    ensures { IfOk result (λ rests. rests.items ≡ left_of books.now taken.now) }
+// The last closed list of each book, all of it. Fails only if out of memory.
+fn rests_of(alloc: Global, books: &[Book]) -> Result<Vec<Rest<'_>>, AllocError>
+    ensures { IfOk result (λ rests. rests.items ≡ map last_list books.now) }
 {
     let mut rests = Vec::with_capacity(alloc, books.len())?;
-    for index in 0..books.len() {
-        rests.push(Rest::of(&books[index], taken_at(taken, index)))?;
+    for book in books {
+        rests.push(Rest::of(book))?;
     }
     Ok(rests)
 }
 
-// The number at an index, or 0 beyond the numbers.
-fn taken_at(taken: &[usize], index: usize) -> usize
-    ensures { result ≡ slice_index_or taken.now index 0 }
-{
-    match taken.get(index) {
-        Some(number) => *number,
-        None => 0,
-    }
-}
-
 // The number of positions of all rests.
-pub(crate) fn count_all(rests: &[Rest<'_>]) -> usize
+fn count_all(rests: &[Rest<'_>]) -> usize
     requires { total rests.now ≤ MOST_POSITIONS }
     ensures { result ≡ total rests.now }
 {
@@ -143,13 +125,6 @@ pub(crate) fn count_all(rests: &[Rest<'_>]) -> usize
         count += rests[index].len();
     }
     count
-}
-
-// Whether all rests are empty.
-pub(crate) fn is_none_left(rests: &[Rest<'_>]) -> bool
-    ensures { result ≡ true → total rests.now ≡ 0 }
-{
-    least_of(rests).is_none()
 }
 
 // The index of a rest whose first position has the least origin; `None` exactly if all rests are empty.
@@ -167,19 +142,4 @@ fn least_of(rests: &[Rest<'_>]) -> Option<usize>
         }
     }
     least
-}
-
-// The same, or `None` if that origin does not come before the bound.
-pub(crate) fn next_of(rests: &[Rest<'_>], bound: &Option<Origin>) -> Option<usize>
-    ensures { IfSome result (λ s. HasLeastFirst rests.now s) }
-{
-    let index = least_of(rests)?;
-    if let Some(bound) = bound {
-        if let Some(origin) = rests[index].first() {
-            if !origin.is_before(*bound) {
-                return None;
-            }
-        }
-    }
-    Some(index)
 }

@@ -79,15 +79,15 @@ fn regions_of(rt: &impl Abort, alloc: Global, level: &Level) -> Regions
 {
     let mut regions = prices_of(rt, alloc, level);
     let mut plan = regions.plan(alloc, level, BYTES).expect(rt, "memory");
-    for task in plan.tasks() {
-        task.run(alloc).expect(rt, "memory");
+    for job in plan.jobs() {
+        job.run(alloc).expect(rt, "memory");
     }
-    regions.take(level, plan);
+    regions.take(alloc, level, plan).expect(rt, "memory");
     regions
 }
 
-// The lower bound of the start of a level.
-fn lower_of(rt: &impl Abort, alloc: Global, board: BoardText) -> u64 {
+// The lower bound of the start of a level; `None` if the start is lost.
+fn lower_of(rt: &impl Abort, alloc: Global, board: BoardText) -> Option<u64> {
     let level = level_of(rt, alloc, board);
     let regions = regions_of(rt, alloc, &level);
     let start = Position::start(&level).expect(rt, "few boxes");
@@ -95,21 +95,12 @@ fn lower_of(rt: &impl Abort, alloc: Global, board: BoardText) -> u64 {
     regions.lower(&start, &mut Matching::new())
 }
 
-// Whether a table says that the start of a level is lost.
-fn is_dead(rt: &impl Abort, alloc: Global, board: BoardText) -> bool {
-    let level = level_of(rt, alloc, board);
-    let regions = regions_of(rt, alloc, &level);
-    let start = Position::start(&level).expect(rt, "few boxes");
-    assert!(rt; start.fits(&level));
-    regions.is_dead(&start)
-}
-
 #[test]
 fn starts_need_pushes(rt: HostRuntime) {
     let alloc = rt.alloc();
-    assert!(&rt; lower_of(&rt, alloc, FREE) == 2);
-    assert!(&rt; lower_of(&rt, alloc, BETWEEN) == 4);
-    assert!(&rt; lower_of(&rt, alloc, BLOCKED) == 6);
+    assert!(&rt; lower_of(&rt, alloc, FREE) == Some(2));
+    assert!(&rt; lower_of(&rt, alloc, BETWEEN) == Some(4));
+    assert!(&rt; lower_of(&rt, alloc, BLOCKED) == Some(6));
 }
 
 #[test]
@@ -118,39 +109,37 @@ fn prices_know_no_regions(rt: HostRuntime) {
     let regions = prices_of(&rt, rt.alloc(), &level);
     let start = Position::start(&level).expect(&rt, "few boxes");
     assert!(&rt; start.fits(&level));
-    assert!(&rt; regions.lower(&start, &mut Matching::new()) == 4);
-    assert!(&rt; !regions.is_dead(&start));
+    assert!(&rt; regions.lower(&start, &mut Matching::new()) == Some(4));
 }
 
 #[test]
 fn three_boxes_need_more(rt: HostRuntime) {
     let alloc = rt.alloc();
-    assert!(&rt; lower_of(&rt, alloc, THREE) == 10);
-    assert!(&rt; lower_of(&rt, alloc, THREE_AT_WALLS) == 3);
+    assert!(&rt; lower_of(&rt, alloc, THREE) == Some(10));
+    assert!(&rt; lower_of(&rt, alloc, THREE_AT_WALLS) == Some(3));
 }
 
 #[test]
 fn four_boxes_need_more(rt: HostRuntime) {
     let alloc = rt.alloc();
-    assert!(&rt; lower_of(&rt, alloc, FOUR) == 15);
-    assert!(&rt; lower_of(&rt, alloc, FOUR_AT_WALLS) == 3);
+    assert!(&rt; lower_of(&rt, alloc, FOUR) == Some(15));
+    assert!(&rt; lower_of(&rt, alloc, FOUR_AT_WALLS) == Some(3));
 }
 
 #[test]
 fn five_boxes_need_more(rt: HostRuntime) {
     let alloc = rt.alloc();
-    assert!(&rt; lower_of(&rt, alloc, FIVE) == 7);
-    assert!(&rt; lower_of(&rt, alloc, FIVE_AT_WALLS) == 9);
+    assert!(&rt; lower_of(&rt, alloc, FIVE) == Some(7));
+    assert!(&rt; lower_of(&rt, alloc, FIVE_AT_WALLS) == Some(9));
 }
 
 #[test]
 fn boxes_are_lost(rt: HostRuntime) {
     let alloc = rt.alloc();
-    assert!(&rt; is_dead(&rt, alloc, CORRIDOR));
-    assert!(&rt; is_dead(&rt, alloc, THREE_ARE_LOST));
-    assert!(&rt; is_dead(&rt, alloc, FOUR_ARE_LOST));
-    assert!(&rt; is_dead(&rt, alloc, FIVE_ARE_LOST));
-    assert!(&rt; lower_of(&rt, alloc, FIVE_ARE_LOST) == u64::MAX);
+    assert!(&rt; lower_of(&rt, alloc, CORRIDOR).is_none());
+    assert!(&rt; lower_of(&rt, alloc, THREE_ARE_LOST).is_none());
+    assert!(&rt; lower_of(&rt, alloc, FOUR_ARE_LOST).is_none());
+    assert!(&rt; lower_of(&rt, alloc, FIVE_ARE_LOST).is_none());
 }
 
 // Compares the bound of each position of a level with the slow search. The table is of the whole room, so the bound is
@@ -164,16 +153,12 @@ fn compare_all(rt: &impl Abort, alloc: Global, board: BoardText) {
     for (place, position) in positions.as_slice().iter().enumerate() {
         assert!(rt; position.fits(&level));
         assert!(rt; place < fewest.len());
-        let low = regions.lower(position, &mut matching);
-        let pushes = fewest[place];
+        let low = regions.lower(position, &mut matching).unwrap_or(LOST);
         assert_eq!(rt;
             low.min(u64::from(NEVER)),
-            pushes.min(u64::from(NEVER)),
+            fewest[place].min(u64::from(NEVER)),
             "place {place}"
         );
-        let is_dead = regions.is_dead(position);
-        assert!(rt; !is_dead || pushes == LOST, "place {place} is not lost");
-        assert!(rt; !is_dead || low == LOST, "place {place}: {low}");
     }
 }
 
@@ -194,22 +179,20 @@ fn of_whole_rooms_the_bound_is_the_fewest_pushes(rt: HostRuntime) {
 #[test]
 fn one_box_needs_what_it_needs_alone(rt: HostRuntime) {
     let alloc = rt.alloc();
-    assert!(&rt; lower_of(&rt, alloc, WAY_ROUND) == 2);
-    assert!(&rt; is_dead(&rt, alloc, WRONG_SIDE));
+    assert!(&rt; lower_of(&rt, alloc, WAY_ROUND) == Some(2));
+    assert!(&rt; lower_of(&rt, alloc, WRONG_SIDE).is_none());
 }
 
 #[test]
 fn boxes_on_goals_need_no_push(rt: HostRuntime) {
     let alloc = rt.alloc();
-    assert!(&rt; lower_of(&rt, alloc, SOLVED) == 0);
-    assert!(&rt; !is_dead(&rt, alloc, SOLVED));
+    assert!(&rt; lower_of(&rt, alloc, SOLVED) == Some(0));
 }
 
 #[test]
 fn a_box_where_the_player_never_comes_needs_nothing(rt: HostRuntime) {
     let alloc = rt.alloc();
-    assert!(&rt; lower_of(&rt, alloc, SHUT_AWAY) == 1);
-    assert!(&rt; !is_dead(&rt, alloc, SHUT_AWAY));
+    assert!(&rt; lower_of(&rt, alloc, SHUT_AWAY) == Some(1));
 }
 
 // A box beside its goal that has to go along the corridor to column `end` and back, since a box on a goal shuts the
@@ -252,15 +235,14 @@ fn a_table_says_at_most_254(rt: HostRuntime) {
         assert!(&rt; start.fits(&level));
         assert_eq!(&rt;
             regions.lower(&start, &mut Matching::new()),
-            pushes,
+            Some(pushes),
             "to column {end}"
         );
-        assert!(&rt; !regions.is_dead(&start));
     }
 }
 
 // The bound of the start of a level by regions that were chosen for the start as the only sample.
-fn chosen_again(rt: &impl Abort, alloc: Global, board: BoardText) -> u64 {
+fn chosen_again(rt: &impl Abort, alloc: Global, board: BoardText) -> Option<u64> {
     let level = level_of(rt, alloc, board);
     let mut regions = prices_of(rt, alloc, &level);
     let start = Position::start(&level).expect(rt, "few boxes");
@@ -268,20 +250,20 @@ fn chosen_again(rt: &impl Abort, alloc: Global, board: BoardText) -> u64 {
     let mut plan = regions
         .plan_for(alloc, &level, BYTES, &[start.copy()])
         .expect(rt, "memory");
-    for task in plan.tasks() {
-        task.run(alloc).expect(rt, "memory");
+    for job in plan.jobs() {
+        job.run(alloc).expect(rt, "memory");
     }
-    regions.take_later(&level, plan);
+    regions.take_later(alloc, &level, plan).expect(rt, "memory");
     regions.lower(&start, &mut Matching::new())
 }
 
 #[test]
 fn regions_that_are_chosen_again_count_beside_the_first(rt: HostRuntime) {
     let alloc = rt.alloc();
-    assert!(&rt; chosen_again(&rt, alloc, BLOCKED) == 6);
-    assert!(&rt; chosen_again(&rt, alloc, FOUR) == 15);
-    assert!(&rt; chosen_again(&rt, alloc, FIVE_AT_WALLS) == 9);
-    assert!(&rt; chosen_again(&rt, alloc, FIVE_ARE_LOST) == LOST);
+    assert!(&rt; chosen_again(&rt, alloc, BLOCKED) == Some(6));
+    assert!(&rt; chosen_again(&rt, alloc, FOUR) == Some(15));
+    assert!(&rt; chosen_again(&rt, alloc, FIVE_AT_WALLS) == Some(9));
+    assert!(&rt; chosen_again(&rt, alloc, FIVE_ARE_LOST).is_none());
 }
 
 #[test]
@@ -292,17 +274,19 @@ fn plans_of_other_levels_change_nothing(rt: HostRuntime) {
     let mut regions = regions_of(&rt, alloc, &level);
     let strange = prices_of(&rt, alloc, &other);
     let mut plan = strange.plan(alloc, &other, BYTES).expect(&rt, "memory");
-    for task in plan.tasks() {
-        task.run(alloc).expect(&rt, "memory");
+    for job in plan.jobs() {
+        job.run(alloc).expect(&rt, "memory");
     }
-    regions.take(&level, plan);
+    regions.take(alloc, &level, plan).expect(&rt, "memory");
     let again = strange
         .plan_for(alloc, &other, BYTES, &[])
         .expect(&rt, "memory");
-    regions.take_later(&level, again);
+    regions
+        .take_later(alloc, &level, again)
+        .expect(&rt, "memory");
     let start = Position::start(&level).expect(&rt, "few boxes");
     assert!(&rt; start.fits(&level));
-    assert!(&rt; regions.lower(&start, &mut Matching::new()) == 6);
+    assert!(&rt; regions.lower(&start, &mut Matching::new()) == Some(6));
 }
 
 #[test]

@@ -2,7 +2,7 @@
 use crate::boards::{ONE, SOLVED};
 use crate::books::level_of;
 use grid::Moves;
-use prover::Outcome;
+use prover::{Outcome, Unheard};
 use shortest::{MovesOutcome, search_moves};
 use std::alloc::Global;
 use std::process::Abort;
@@ -21,7 +21,7 @@ fn text_of<R: Threads + Abort + Sync>(
     limit: u32,
 ) -> Option<Vec<u8>> {
     let level = level_of(rt, alloc, board);
-    let best = prover::search(rt, alloc, &level, None, 1_000, 1).expect(rt, "memory");
+    let best = prover::search(rt, alloc, &level, None, 1_000, 1, &mut Unheard).expect(rt, "memory");
     let Outcome::Least { moves, pushes } = best else {
         panic!(rt; "a solution");
     };

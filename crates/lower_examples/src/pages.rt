@@ -13,7 +13,7 @@ use grid::{Dir, Level, MAX_BOXES, Position, Square, State, Step};
 use layers::{Book, Layer};
 use lurd::Verdict;
 use prices::{Distances, Matching, Slack};
-use prover::Outcome;
+use prover::{Outcome, Unheard};
 use regions::Regions;
 use solo::{Answer, solve_alone};
 use std::alloc::Global;
@@ -179,13 +179,13 @@ fn page_of_regions(rt: HostRuntime) {
     assert!(&rt; start.fits(&level));
     let mut regions = Regions::of_prices(alloc, &level).expect(&rt, "memory");
     let mut plan = regions.plan(alloc, &level, 1 << 20).expect(&rt, "memory");
-    for task in plan.tasks() {
-        task.run(alloc).expect(&rt, "memory");
+    for job in plan.jobs() {
+        job.run(alloc).expect(&rt, "memory");
     }
-    regions.take(&level, plan);
+    regions.take(alloc, &level, plan).expect(&rt, "memory");
     let mut matching = Matching::new();
     // each box is two pushes from a goal, and one of them has to be pushed out of the row and back
-    assert_eq!(&rt; regions.lower(&start, &mut matching), 6);
+    assert_eq!(&rt; regions.lower(&start, &mut matching), Some(6));
 }
 
 #[test]
@@ -230,9 +230,12 @@ fn page_of_layers(rt: HostRuntime) {
 fn page_of_prover(rt: HostRuntime) {
     let alloc = rt.alloc();
     let level = level_of(&rt, alloc, CORNER);
-    let best = prover::search(&rt, alloc, &level, None, 1_000, 1).expect(&rt, "memory");
+    let progress = &mut Unheard;
+    let best = prover::search(&rt, alloc, &level, None, 1_000, 1, progress).expect(&rt, "memory");
     assert!(&rt; matches!(&best, Outcome::Least { pushes: 2, .. }));
-    let fewer = prover::search(&rt, alloc, &level, Some(1), 1_000, 2).expect(&rt, "memory");
+    let fewer = prover::search(&rt, alloc, &level, Some(1), 1_000, 2, progress).expect(
+        &rt, "memory",
+    );
     assert!(&rt; matches!(&fewer, Outcome::NoneWithin));
 }
 

@@ -75,7 +75,6 @@ fn laws_can_be_called() {
     layers::laws::the_books_of_all_shares_hold_the_layers();
     layers::laws::the_books_of_all_shares_hold_the_layers_and_some_of_the_next();
     solo::laws::an_answer_is_the_only_one();
-    solo::laws::an_answer_is_never_missing();
     solo::laws::the_limit_is_passed_by_the_positions_needed();
     solo::laws::an_empty_layer_is_the_last();
     solo::laws::a_book_that_is_over_passes_the_limit();

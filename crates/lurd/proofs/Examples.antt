@@ -6,7 +6,6 @@ use Rattle.grid.specs.declared.dir.Dir.TheVariants.{R}
 use Rattle.grid.specs.declared.moves.Letter.{Letter}
 use Rattle.grid.specs.declared.cell.Cell.TheVariants.{Wall, Goal, Box, Player}
 use Rattle.grid.specs.Board.{Board, is_wall, is_goal, next, start}
-use Rattle.grid.specs.Plays.{stay, push}
 use Rattle.lurd.specs.declared.fault.LurdFault.TheVariants.{BadCount}
 use Rattle.lurd.specs.declared.verdict.Verdict.TheVariants.{Solved, WrongCase}
 use Rattle.counts.specs.Counts.{decimal}
@@ -78,26 +77,13 @@ only_eight q has = grind (arith, nat_tests)
 -- "R" solves it
 solved : IsVerdict corridor (push_right ∷ []) (Solved 1 1)
 unfolding start is_wall is_goal next
-solved = (
-  record {
-    state = record { boxes = 8 ∷ []; player = 7 };
-    leads = record { dirs = R ∷ []; pushes = _; play = push tt (refl, (refl, refl), refl) (stay tt); written = refl };
-    end = λ q has. subst (λ k. is_goal corridor k ≡ true) (only_eight q has) refl;
-  },
-  refl,
-  refl,
-)
+solved = inr (inr (
+  record { boxes = 8 ∷ []; player = 7 },
+  (refl, (refl, refl), refl),
+  inl (λ q has. subst (λ k. is_goal corridor k ≡ true) (only_eight q has) refl, refl),
+))
 
 -- "r" has the wrong case at its first letter
 wrong_case : IsVerdict corridor (right ∷ []) (WrongCase 1)
 unfolding start is_wall is_goal next
-wrong_case = record {
-  front = [];
-  letter = right;
-  rest = [];
-  state = start corridor;
-  cut = refl;
-  place = refl;
-  leads = record { dirs = []; pushes = []; play = stay tt; written = refl };
-  wrong = (record { boxes = 8 ∷ []; player = 7 }, (refl, (refl, refl), refl));
-}
+wrong_case = inr (inl ((record { boxes = 8 ∷ []; player = 7 }, (refl, (refl, refl), refl)), refl))

@@ -9,7 +9,10 @@ use Rattle.grid.specs.declared.dir.Dir.TheVariants.{D, L, R, U}
 use Rattle.grid.specs.declared.moves.Letter.{Letter}
 use Rattle.lurd.specs.inside.Item.{IsLetterByte}
 use Rattle.lurd.specs.Text.{letter_byte, is_skipped}
-use Rattle.lurd.proofs.Leading.{letter_by}
+
+-- the letter with a direction and a case
+abbrev letter_by : Dir → Bool → Letter
+letter_by d b = record { dir = d; push = b }
 
 no_digit_by : (d : Dir) (b : Bool) → is_ascii_digit (letter_byte (letter_by d b)) ≡ false
 no_digit_by D true = refl

@@ -1,6 +1,6 @@
 pub mod lemmas
 pub mod Items
-pub mod Leading
+pub mod Replaying
 pub mod Texts
 pub mod Verdicts
 pub mod Letters

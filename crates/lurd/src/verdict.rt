@@ -21,7 +21,7 @@ pub enum Verdict {
 
 /// The verdict on the letters, played on the level from its start. The first letter that is wrong decides. Fails
 /// only if out of memory.
-#[tactic(auto, using(crate::proofs::Leading::one_letter_on))]
+#[tactic(auto, using(crate::proofs::Replaying::leading))]
 pub fn replay(alloc: Global, level: &Level, moves: &Moves) -> Result<Verdict, AllocError>
     ensures { IfOk result (λ verdict. IsVerdict level.now moves.now verdict) }
 {

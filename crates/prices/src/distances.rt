@@ -1,11 +1,11 @@
-ghost use Rattle.std.specs.Prelude.{◌≡◌, ℕ, ◌<◌, ◌≤◌, IfOk, IsTrue, length};
+ghost use Rattle.std.specs.Prelude.{◌≡◌, ℕ, ◌<◌, ◌≤◌, IfOk, IsTrue, drop, length, take};
 ghost use Rattle.grid.specs.Lawful.{box_count};
 ghost use Rattle.grid.specs.States.{IsScene};
 ghost use Rattle.doom.specs.Lost.{IsLost};
 ghost use Rattle.prices.specs.Solving.{NoneWithin};
 ghost use Rattle.prices.specs.Prices.{AreFar, ComesOfTolls, goals_of};
 ghost use Rattle.prices.specs.inside.Checks.{StayAway};
-ghost use Rattle.prices.specs.inside.Tables.{far_in, row_in};
+ghost use Rattle.prices.specs.inside.Tables.{far_in, row_in, row_start};
 
 use crate::check::make_sure;
 use crate::lost::mark_count;
@@ -120,6 +120,26 @@ impl Distances {
         ensures { result.now ≡ row_in self.now.table square player }
     {
         self.table.row(square, player)
+    }
+
+    /// The index of the first distance of that row among the distances of all rows.
+    #[inline(always)]
+    pub fn row_start(&self, square: Square, player: Square) -> usize
+        ensures { result ≡ row_start self.now.table.spots.items self.now.table.sides.items square player }
+    {
+        self.table.row_start(square, player) as usize
+    }
+
+    /// The row whose first distance has this index. It is shorter than a row if the distances end before.
+    pub fn row_at(&self, start: usize) -> &[u32]
+        ensures { result.now ≡ take (length self.now.table.goals.items) (drop start self.now.table.far.items) }
+    {
+        part(self.table.far.as_slice(), start, self.table.goals.len())
+    }
+
+    /// The number of distances of all rows.
+    pub fn count(&self) -> usize {
+        self.table.far.len()
     }
 
     // What the boxes need above the sum of these tolls; 0 if there is not one toll for each goal.

@@ -1,10 +1,10 @@
 -- Jobs that are dealt to lanes, over plain lists.
 use Rattle.std.proofs.Common.{◌≡◌, ◌∙◌, ℕ, suc, ◌≤◌, ◌<◌, List, [], ◌∷◌, ◌++◌, length, get_or, Option, Some, sym, subst, ap, arith, drop, take, false, Vec}
-use Rattle.std.proofs.Common.{Global, Result, Ok, Err}
+use Rattle.std.proofs.Common.{Global}
 use Rattle.std.proofs.lemmas.Option.{slice_get-get_or}
 use Rattle.std.proofs.lemmas.Bool.{false≢true}
 use Rattle.std.proofs.Math.Seq.{take-append_seam}
-use Rattle.std.specs.Prelude.{◌^◌, OnOk, slice_get}
+use Rattle.std.specs.Prelude.{◌^◌, slice_get}
 use Rattle.std.specs.Vec.{with_items}
 use Rattle.grid.specs.Board.{Board, IsSolved}
 use Rattle.grid.specs.States.{FitsLevel}
@@ -12,9 +12,12 @@ use Rattle.store.specs.Visited.{Entry, VisitedView}
 use Rattle.successors.specs.Tasks.{Task}
 use Rattle.successors.proofs.lemmas.Lists.{each_push}
 use Rattle.prover.specs.declared.lane.Job.{Job}
+use Rattle.prover.specs.declared.lane.Lane.{Lane}
 use Rattle.prover.specs.declared.pushing.Expanded.{Expanded}
-use Rattle.prover.specs.inside.Rounds.{AreJobs, IsJob}
-use Rattle.prover.specs.inside.Working.{MayBeExpanded, IsSearchOnBoard, IsWaiting}
+use Rattle.prover.specs.Frontier.{IsReachedAfter}
+use Rattle.prover.specs.inside.Rounds.{AreJobs, AreLanes, IsJob}
+use Rattle.prover.specs.inside.Working.{KeepPlaces, MayBeExpanded, IsSearchOnBoard, IsWaiting}
+use Rattle.prover.proofs.Steps.{expansion_on}
 
 -- what holds of each element of a list holds of the one at a place
 pub each_at : {A : Type 0} (P : A → Type 0) (xs : List A) (i : ℕ) → i < length xs → ((j : ℕ) (z : A) → slice_get xs j ≡ Some z → P z) →
@@ -22,10 +25,20 @@ pub each_at : {A : Type 0} (P : A → Type 0) (xs : List A) (i : ℕ) → i < le
 each_at P xs i lt each d = each i (get_or xs i d) (slice_get-get_or xs i d lt)
 
 -- one more job
-pub jobs_push : (t : Task) (old new : List Job) (job : Job) → new ≡ old ++ job ∷ [] → job.is_done ≡ false → MayBeExpanded t.board job.from →
-    AreJobs t old → AreJobs t new
-jobs_push t old new job shape undone ready jobs = subst (AreJobs t) (sym shape)
-    (each_push (IsJob t) old job (record { ready = ready; found = λ done. absurd (false≢true (sym undone ∙ done)) }) jobs)
+pub jobs_push : (t : Task) (all : List Entry) (old new : List Job) (job : Job) → new ≡ old ++ job ∷ [] → job.is_done ≡ false → MayBeExpanded t.board job.from →
+    AreJobs t all old → AreJobs t all new
+jobs_push t all old new job shape undone ready jobs = subst (AreJobs t all) (sym shape)
+    (each_push (IsJob t all) old job (record { ready = ready; found = λ done. absurd (false≢true (sym undone ∙ done)) }) jobs)
+
+-- what lanes hold beside what was found they hold beside what is found later
+pub lanes_on : (t : Task) (old new : List Entry) (lanes : List Lane) → KeepPlaces old new → AreLanes t old lanes → AreLanes t new lanes
+lanes_on t old new lanes still are i lane at = record {
+  task = (are i lane at).task;
+  jobs = λ j job there. (let is = (are i lane at).jobs j job there in record {
+    ready = is.ready;
+    found = λ done. expansion_on t.board t.cap old new job.from job.opened.items job.next still (is.found done);
+  });
+}
 
 -- a position that was found and is not solved can be expanded
 pub ready_by : (board : Board) (cap : Option ℕ) (v : VisitedView) (place : ℕ) (x : Entry) (from : Expanded) → IsSearchOnBoard board cap v →
@@ -36,7 +49,12 @@ ready_by board cap v place x from searched few at same range unsolved =
     let count = same.1 in
     let one_more : suc from.pushes < 2 ^ 32 = omega (arith, less, count, few) in
     record {
-      expandable = record { fits = subst (FitsLevel board) (sym same.0) (searched.under_way.sound place x at).fits; few = one_more };
+      expandable = record {
+        fits = subst (FitsLevel board) (sym same.0) (searched.under_way.sound place x at).fits;
+        reached = subst (IsReachedAfter board from.pushes) (sym same.0)
+            (subst (λ (j : ℕ). IsReachedAfter board j x.position) (sym count) (searched.under_way.sound place x at).reached);
+        few = one_more;
+      };
       range = record { pushes = one_more; reach = range };
       unsolved = unsolved;
     }
@@ -61,8 +79,3 @@ each_back {A = A} P v new long each =
     let rest = drop (length new) v.items in
     subst (λ (xs : List A). (j : ℕ) (z : A) → slice_get xs j ≡ Some z → P z)
     (sym (ap (λ (n : ℕ). take n (new ++ rest)) (sym long) ∙ take-append_seam new rest)) each
-
--- what holds anyhow holds after a call that may fail
-pub anyhow : {T E : Type 0} (result : Result T E) (P : Type 0) → P → OnOk result P
-anyhow (Ok r) P is = is
-anyhow (Err e) P is = tt

@@ -11,7 +11,7 @@ use Rattle.store.specs.Visited.{Entry}
 use Rattle.prover.specs.Fewest.{NoneHasFewer, IsReachable, HasMore}
 use Rattle.prover.specs.Frontier.{IsSearchUnderWay, AreFrom, NoneIsOpen}
 use Rattle.prover.specs.inside.Working.{IsLeastOpen}
-use Rattle.prover.specs.inside.SearchEnds.{NoneIsAllowed, IsLeastSolved}
+use Rattle.prover.specs.inside.SearchEnds.{NoneIsAllowed, IsFloor, IsLeastSolved}
 use Rattle.prover.proofs.Openings.{allows_fewer, least_bounds, closed_decides}
 
 pub none_has_fewer : (board : Board) (cap : Option ℕ) (all : List Entry) (least : ℕ) → IsLevel board → IsSearchUnderWay board cap all → AreFrom least all →
@@ -45,13 +45,32 @@ solved_told board cap all place least level under (x, at, open_, from) solved =
 
 -- what the least total says
 pub least_told : (board : Board) (cap : Option ℕ) (all : List Entry) (place least : ℕ) → IsLevel board → IsSearchUnderWay board cap all →
-    IsLeastOpen all place least → NoneHasFewer board least
+    IsLeastOpen all place least → IsFloor board cap least
 least_told board cap all place least level under (x, at, open_, from) =
-    none_has_fewer board cap all least level under from ((under.sound place x at).total least open_).allowed
+    let allowed = ((under.sound place x at).total least open_).allowed in
+    (none_has_fewer board cap all least level under from allowed, allowed)
 
 -- and the greater one of two such numbers
-pub told_more : (board : Board) (a b n : ℕ) → n ≡ max a b → NoneHasFewer board a → NoneHasFewer board b → NoneHasFewer board n
-told_more board a b n is first second ds ps solution = let p = first ds ps solution in let q = second ds ps solution in omega (arith, is, p, q)
+pub told_more : (board : Board) (cap : Option ℕ) (a b n : ℕ) → n ≡ max a b → IsFloor board cap a → IsFloor board cap b → IsFloor board cap n
+told_more board cap a b n is first second = (
+  (λ ds ps solution. let p = first.0 ds ps solution in let q = second.0 ds ps solution in omega (arith, is, p, q)),
+  by cap first.1 second.1,
+)
+  where
+    by : (cap : Option ℕ) → Allows cap a → Allows cap b → Allows cap n
+    by None one two = tt
+    by (Some most) one two = omega (arith, is, one, two)
+
+-- so the greater one of the least total and such a number
+pub floor_then : (board : Board) (cap : Option ℕ) (all : List Entry) (place least reach n : ℕ) → n ≡ max least reach → IsLevel board →
+    IsSearchUnderWay board cap all → IsLeastOpen all place least → IsFloor board cap reach → IsFloor board cap n
+floor_then board cap all place least reach n is level under found floor =
+    told_more board cap least reach n is (least_told board cap all place least level under found) floor
+
+-- nothing is less than 0
+pub told_none : (board : Board) (cap : Option ℕ) → IsFloor board cap 0
+told_none board None = ((λ ds ps solution. omega arith), tt)
+told_none board (Some most) = ((λ ds ps solution. omega arith), omega arith)
 
 position_at : (all : List Entry) (i : ℕ) (s : Scene) → slice_get (map (λ (x : Entry). x.position) all) i ≡ Some s →
     (x : Entry) × (slice_get all i ≡ Some x) × (x.position ≡ s)
@@ -70,5 +89,7 @@ has_more board cap all limit under distinct many = record {
   positions = map (λ (x : Entry). x.position) all;
   many = (let e = same_length all in omega (arith, e, many));
   different = distinct;
-  reached = λ i s p. (let (x, a, same) = position_at all i s p in subst (IsReachable board) same (under.sound i x a).reached);
+  reached = λ i s p. (let (x, a, same) = position_at all i s p in
+      let (ds, ps, t, play, norm, long) = (under.sound i x a).reached in
+      subst (IsReachable board) same (ds, ps, t, play, norm));
 }

@@ -7,7 +7,7 @@ use Rattle.std.proofs.lemmas.Option.{none-some, same_Some, slice_get_within}
 use Rattle.std.specs.Prelude.{slice_get}
 use Rattle.store.specs.Visited.{Entry, HasEntered, IsNew}
 use Rattle.successors.proofs.lemmas.Lists.{at-push, at_before, at_seam, set_at, set_here, set_there}
-use Rattle.prover.specs.inside.Working.{Enters, GetsOn, openness, turns, turns_left}
+use Rattle.prover.specs.inside.Working.{Enters, GetsOn, KeepPlaces, openness, turns, turns_left}
 
 -- ---- lists
 
@@ -37,11 +37,13 @@ few_open None = omega arith
 few_open (Some n) = omega arith
 
 pub same_turns : (old new : List Entry) → new ≡ old → GetsOn old new
-same_turns old new e = subst (λ (xs : List Entry). GetsOn old xs) (sym e) (record { more = omega arith; turns = λ limit le. omega arith })
+same_turns old new e = subst (λ (xs : List Entry). GetsOn old xs) (sym e)
+    (record { still = λ i x at. (x, at, refl, omega arith); more = omega arith; turns = λ limit le. omega arith })
 
 added_turns : (old : List Entry) (y : Entry) → y.pushes ≤ length old → GetsOn old (old ++ y ∷ [])
 added_turns old y few =
     let long = length-append old (y ∷ []) in record {
+      still = λ i x at. (x, at_before old (y ∷ []) i x at, refl, omega arith);
       more = omega (arith, long);
       turns = λ limit le.
           (let sum = turns_added old y in
@@ -101,15 +103,7 @@ entered_before old e x i at same le = record {
 -- it was found with more pushes
 entered_again : (old : List Entry) (e x : Entry) (i : ℕ) → slice_get old i ≡ Some x → x.position ≡ e.position → e.pushes < x.pushes → Enters old (set old i e) e
 entered_again old e x i at same lt = record {
-  still = λ j z there. elim (cases_eq j i) [
-    | inl eq ↦ (let is = here j z there eq in (
-      e,
-      ap (λ (k : ℕ). slice_get (set old i e) k) eq ∙ set_here old i e inside,
-      sym same ∙ ap (λ (w : Entry). w.position) (sym is),
-      (let p = ap (λ (w : Entry). w.pushes) is in omega (arith, lt, p)),
-    ))
-    | inr ne ↦ (z, set_there old i j e ne ∙ there, refl, omega arith)
-  ];
+  still = kept;
   below = λ j z there few. elim (cases_eq j i) [
     | inl eq ↦ absurd (let p = ap (λ (w : Entry). w.pushes) (here j z there eq) in omega (arith, lt, few, p))
     | inr ne ↦ set_there old i j e ne ∙ there
@@ -124,6 +118,7 @@ entered_again old e x i at same lt = record {
     | inr (p, q) ↦ (let less = few j z q in omega (arith, less, long))
   ]);
   goes_on = λ low. (let long = length-set old i e in let one = few_open e.least in record {
+    still = kept;
     more = omega (arith, long);
     turns = λ limit le. (let less = fewer_turns old i limit x e at (omega (arith, lt, one)) in omega (arith, less));
   });
@@ -134,6 +129,17 @@ entered_again old e x i at same lt = record {
 
     here : (j : ℕ) (z : Entry) → slice_get old j ≡ Some z → j ≡ i → z ≡ x
     here j z there eq = same_Some z x (sym there ∙ (ap (λ (k : ℕ). slice_get old k) eq ∙ at))
+
+    kept : KeepPlaces old (set old i e)
+    kept j z there = elim (cases_eq j i) [
+      | inl eq ↦ (let is = here j z there eq in (
+        e,
+        ap (λ (k : ℕ). slice_get (set old i e) k) eq ∙ set_here old i e inside,
+        sym same ∙ ap (λ (w : Entry). w.position) (sym is),
+        (let p = ap (λ (w : Entry). w.pushes) is in omega (arith, lt, p)),
+      ))
+      | inr ne ↦ (z, set_there old i j e ne ∙ there, refl, omega arith)
+    ]
 
 pub entered : (old new : List Entry) (e : Entry) (place : Option ℕ) → HasEntered old new e place → Enters old new e
 entered old new e (Some i) (inl (end, is, fresh)) = subst (λ (xs : List Entry). Enters old xs e) (sym is) (entered_new old e fresh)

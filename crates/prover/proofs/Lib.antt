@@ -1,6 +1,6 @@
 pub mod lemmas
 pub mod Columns
-pub mod OnGoals
+pub mod Turning
 pub mod Openings
 pub mod Entering
 pub mod Deferring

@@ -9,10 +9,10 @@ use Rattle.area.specs.Area.{IsNorm}
 use Rattle.area.specs.Pushes.{CanPush}
 use Rattle.successors.specs.Expansion.{after_push}
 use Rattle.grid.proofs.lemmas.Plays.{walk_keeps_boxes}
+use Rattle.lurd.proofs.lemmas.Solutions.{solved_or_not}
 use Rattle.prices.specs.Solving.{Allows, SolvableWithin}
 use Rattle.prices.proofs.lemmas.Solving.{solved_before, norms_change_nothing}
 use Rattle.prover.proofs.Deferring.{tightened}
-use Rattle.prover.proofs.OnGoals.{solved_or_not}
 use Rattle.prover.proofs.lemmas.Pruning.{keeps_so}
 use Rattle.store.specs.Visited.{Entry}
 use Rattle.prover.specs.Frontier.{IsFoundWithin, IsDoneFor, IsBelowLeast, IsSettled, IsSoundEntry, AreSoundEntries, IsOnTheWay, IsBound, ComesFrom}
@@ -99,6 +99,13 @@ pub found_on : (old new : List Entry) (k : ℕ) (s : Scene) → KeepPlaces old n
 found_on old new k s still (i, x, at, same, le) =
     let (y, there, alike, less) = still i x at in
     (i, y, there, alike ∙ same, omega (arith, less, le))
+
+-- places that are kept twice are kept
+pub kept_then : (first second third : List Entry) → KeepPlaces first second → KeepPlaces second third → KeepPlaces first third
+kept_then first second third one two i x at =
+    let (y, there, same, less) = one i x at in
+    let (z, here, alike, fewer) = two i y there in
+    (z, here, alike ∙ same, omega (arith, less, fewer))
 
 -- what is settled stays so
 pub settled_on : (board : Board) (cap : Option ℕ) (old new : List Entry) (x : Entry) → KeepPlaces old new → IsSettled board cap old x →

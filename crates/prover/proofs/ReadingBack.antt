@@ -1,21 +1,21 @@
 -- The pushes that lead to a position, read back from push to push, and the solution that they make.
-use Rattle.std.proofs.Common.{◌≡◌, ℕ, zero, suc, ◌≤◌, true, false, cond, List, [], ◌∷◌, ◌++◌, length, reverse, Option, None, Some, refl, sym}
+use Rattle.std.proofs.Common.{◌≡◌, ℕ, zero, suc, ◌≤◌, true, List, [], ◌∷◌, ◌++◌, length, reverse, Option, None, Some, sym}
 use Rattle.std.proofs.Common.{ap, subst, ◌∙◌, arith, append-nil, append_assoc}
 use Rattle.std.proofs.lemmas.List.{reverse-append}
-use Rattle.std.proofs.lemmas.List.Sums.{sum_by-cons}
 use Rattle.std.proofs.lemmas.Option.{none-some, same_Some}
-use Rattle.std.specs.List.{count_by}
 use Rattle.std.specs.Prelude.{slice_get}
-use Rattle.grid.specs.declared.dir.Dir.{Dir}
 use Rattle.grid.specs.declared.moves.Letter.{Letter}
 use Rattle.grid.specs.declared.square.Push.{Push}
 use Rattle.grid.specs.Squares.{Squares, contains}
 use Rattle.grid.specs.Board.{Board, Scene, IsSolved, is_goal, start}
-use Rattle.grid.specs.Plays.{Play, stay, walk, push, letters_of}
+use Rattle.grid.specs.Plays.{stay}
 use Rattle.grid.proofs.lemmas.Plays.{walk_keeps_boxes}
 use Rattle.area.specs.Area.{IsNorm}
 use Rattle.area.specs.Pushes.{CanPush}
 use Rattle.successors.specs.Expansion.{after_push}
+use Rattle.lurd.specs.Verdict.{IsVerdict}
+use Rattle.lurd.specs.declared.verdict.Verdict.TheVariants.{Solved}
+use Rattle.lurd.proofs.lemmas.Solutions.{solved_of_play}
 use Rattle.prover.specs.Fewest.{NoneHasFewer}
 use Rattle.prices.specs.Solving.{Allows}
 use Rattle.successors.specs.LeastPlays.{WritesLeastPlay}
@@ -81,18 +81,6 @@ back_whole board all here x y late traced at is back = (
 
 -- ---- the solution
 
-pub count_pushes : {board : Board} {ok : Scene → Type 0} {s t : Scene} {ds : List Dir} {ps : List Push} (play : Play board ok s ds ps t) →
-    count_by (λ (letter : Letter). letter.push) (letters_of play) ≡ length ps
-count_pushes (stay here) = refl
-count_pushes (walk {d = d} here step rest) =
-    let e = sum_by-cons (λ (letter : Letter). cond letter.push 1 0) (record { dir = d; push = false }) (letters_of rest) in
-    let f = count_pushes rest in
-    omega (arith, e, f)
-count_pushes (push {d = d} here step rest) =
-    let e = sum_by-cons (λ (letter : Letter). cond letter.push 1 0) (record { dir = d; push = true }) (letters_of rest) in
-    let f = count_pushes rest in
-    omega (arith, e, f)
-
 solved_alike : (board : Board) (s t : Scene) → s.boxes ≡ t.boxes → IsSolved board s → IsSolved board t
 solved_alike board s t same solved = subst (λ (xs : Squares). (q : ℕ) → contains xs q ≡ true → is_goal board q ≡ true) same solved
 
@@ -102,11 +90,7 @@ pub solution_by : (board : Board) (cap : Option ℕ) (limit : ℕ) (all : List E
     → n ≡ x.pushes → slice_get all place ≡ Some x → AreLeading board ps x.position → length ps ≤ x.pushes → WritesLeastPlay board ps t moves →
     IsLeastSolved board cap all place → IsOutcome board cap limit (Least moves n)
 solution_by board cap limit all place x ps t moves n count at (ds, s, play, norm) few writes least = (
-  (
-    record { state = t; leads = record { dirs = writes.dirs; pushes = ps; play = writes.play; written = writes.written }; end = end },
-    whole ∙ (sym (count_pushes writes.play) ∙ ap (λ (xs : List Letter). count_by (λ (letter : Letter). letter.push) xs) writes.written),
-    refl,
-  ),
+  subst (λ (m : ℕ). IsVerdict board moves (Solved m (length moves))) (sym whole) (solved_of_play writes.play writes.written end),
   subst (NoneHasFewer board) fewest least.fewest,
   subst (Allows cap) fewest least.allowed,
 )

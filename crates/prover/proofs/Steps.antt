@@ -3,9 +3,10 @@ use Rattle.std.proofs.Common.{◌≡◌, ℕ, suc, ◌+◌, ◌≤◌, ◌<◌, 
 use Rattle.std.proofs.Common.{◌∙◌, arith}
 use Rattle.std.proofs.Common.{Result, Ok, Err, OnOk, set, Bool, true, false, IsTrue, cond, nat_lt, get_or}
 use Rattle.std.proofs.lemmas.Bool.{cases_lt, cases_eq, false≢true, ltb-true, ltb-false}
-use Rattle.std.proofs.lemmas.List.{length-set}
+use Rattle.std.proofs.lemmas.List.{length-append, length-set}
 use Rattle.std.proofs.lemmas.Option.{same_Some, slice_get_within, slice_get_read}
 use Rattle.std.specs.Prelude.{slice_get}
+use Rattle.grid.specs.declared.dir.Dir.{Dir}
 use Rattle.grid.specs.declared.square.Push.{Push}
 use Rattle.grid.specs.Board.{Board, Scene, IsSolved, start}
 use Rattle.grid.specs.States.{IsScene, FitsLevel}
@@ -28,14 +29,15 @@ use Rattle.successors.specs.Expansion.{after_push}
 use Rattle.successors.proofs.lemmas.Lists.{at-push, at_before, at_seam, set_at, set_here, set_there}
 use Rattle.prover.specs.declared.pushing.Expanded.{Expanded}
 use Rattle.prover.specs.declared.pushing.Opened.{Opened}
-use Rattle.prover.specs.Fewest.{IsReachable}
+use Rattle.prover.specs.Frontier.{IsReachedAfter}
+use Rattle.prover.specs.Parity.{SomeHas}
 use Rattle.store.specs.Visited.{Entry, VisitedView, with_least}
 use Rattle.prover.specs.Frontier.{IsFoundWithin, IsSoundEntry, IsSearchUnderWay, IsBound, IsTotal, IsLeast, IsSettled, ComesFrom, NoneGoesOn}
 use Rattle.prover.specs.inside.Working.{HasLeastAt, KeepPlaces, Expands, IsPushDone, ArePushesDone, IsChosen, Enters, AreLeading, IsFoundAt, StayBelow, IsExpanding}
 use Rattle.prover.specs.inside.Working.{IsSearchOnBoard, Widens, GetsOn, IsLater, lesser_total, openness, tighter, turns_left}
-use Rattle.prover.specs.inside.Working.{AreEntered, IsOpenedPosition, IsOpenedBy, Opens}
+use Rattle.prover.specs.inside.Working.{AreEntered, IsExpansion, IsKept, IsOpenedPosition, IsOpenedBy, Opens}
 use Rattle.prover.proofs.lemmas.Pruning.{after_scene, all_suffice, keeps_so, pushed_from, pushed_push}
-use Rattle.prover.proofs.Openings.{allows_fewer, found_on, settled_open, settled_expanded, sound_on}
+use Rattle.prover.proofs.Openings.{allows_fewer, found_on, kept_then, settled_open, settled_expanded, sound_on}
 use Rattle.prover.proofs.Deferring.{lesser_below}
 use Rattle.prover.proofs.Entering.{same_turns, fewer_turns}
 
@@ -70,14 +72,32 @@ pub slack_never : (v : SlackView) (board : Board) (s : Scene) (least : ℕ) (p :
 slack_never v board s least p same never m lt =
     subst (λ (b : Board). NeverHelps b m s p.square p.dir) same.0 (subst (λ (x : Scene). NeverHelps v.board m x p.square p.dir) same.1 (never m lt))
 
--- so is one that never helps with fewer pushes than `least`, where the cap allows fewer
-pub taken_dear : (board : Board) (cap : Option ℕ) (Kept : Scene → Type 0) (k total least : ℕ) (s : Scene) (p : Push) → IsScene board s → CanPush board s p →
-    ((m : ℕ) → m < least → NeverHelps board m s p.square p.dir) → total ≤ k + least → ((m : ℕ) → Allows cap (k + suc m) → k + suc m < total) →
-    IsPushDone board cap Kept k s p
-taken_dear board cap Kept k total least s p scene can never le below m allowed (ds, ps, t, play, solved, few) =
-    absurd (let lt = below m allowed in
-    let more = never_leads_on board m s (after_push board s p) p scene (never (suc m) (omega (arith, le, lt)))
-    (record { there = can.there; behind = can.behind; ahead = can.ahead; after = refl }) ds ps t play solved in omega (arith, more, few))
+-- a play goes on from a position that a play reached, and solves it
+pub solution_from : (board : Board) (k : ℕ) (n t : Scene) (ds : List Dir) (ps : List Push) → IsReachedAfter board k n → Play board Any n ds ps t → IsSolved board t →
+    SomeHas board (k + length ps)
+solution_from board k n t ds ps (es, qs, s, play, norm, long) rest solved =
+    let to = norm_walk norm in (
+      es ++ (to.0 ++ ds),
+      qs ++ ps,
+      (t, play-append play (play-append to.1 rest), solved),
+      (let size = length-append qs ps in omega (arith, size, long)),
+    )
+
+-- so is one that never helps with fewer pushes than `least`, where the cap allows fewer, or as few as no solution has
+pub taken_dear : (board : Board) (cap : Option ℕ) (Kept : Scene → Type 0) (k low total least : ℕ) (s : Scene) (p : Push) → IsScene board s → CanPush board s p →
+    IsReachedAfter board k s → ((m : ℕ) → m < least → NeverHelps board m s p.square p.dir) → low ≤ k + least →
+    ((n : ℕ) → SomeHas board n → low ≤ n → total ≤ n) → ((m : ℕ) → Allows cap (k + suc m) → k + suc m < total) → IsPushDone board cap Kept k s p
+taken_dear board cap Kept k low total least s p scene can reached never le rounds below m allowed (ds, ps, t, play, solved, few) = absurd (elim (cases_lt (k + suc (length ps)) low) [
+  | inl lt ↦
+      (let more = never_leads_on board (length ps) s (after_push board s p) p scene (never (suc (length ps)) (omega (arith, le, lt)))
+      (record { there = can.there; behind = can.behind; ahead = can.ahead; after = refl }) ds ps t play solved in omega (arith, more))
+  | inr ge ↦
+      (let walk = can.behind in
+      let some = solution_from board k s t (walk.0 ++ p.dir ∷ ds) _ reached (play-append walk.1 (push tt (pushed_from board s p scene can) play)) solved in
+      let up = rounds (k + suc (length ps)) some ge in
+      let lt = below m allowed in
+      omega (arith, up, lt, few))
+])
 
 -- what the cap allows is less than a total that it does not allow
 pub below_refused : (cap : Option ℕ) (total m : ℕ) → ¬ (Allows cap total) → Allows cap m → m < total
@@ -154,6 +174,14 @@ bound_by board k low total s none few rest (ds, ps, t, play, solved, le) = elim 
   | inr ge ↦ omega (arith, few, ge)
 ]
 
+-- so does the number that it is rounded up to, below which no solution has as many
+pub bound_rounded : (board : Board) (k total more : ℕ) (n : Scene) → IsReachedAfter board k n → ((m : ℕ) → SomeHas board m → total ≤ m → more ≤ m) →
+    IsBound board k n total → IsBound board k n more
+bound_rounded board k total more n reached rounds bound rest (ds, ps, t, play, solved, few) =
+    let low = bound (length ps) (ds, ps, t, play, solved, omega arith) in
+    let up = rounds (k + length ps) (solution_from board k n t ds ps reached play solved) low in
+    omega (arith, up, few)
+
 -- what none goes on from by a bound that the cap does not allow
 pub none_over : (board : Board) (cap : Option ℕ) (k total : ℕ) (s : Scene) → IsBound board k s total → ¬ (Allows cap total) → NoneGoesOn board cap k s
 none_over board cap k total s bound over rest allowed solvable = over (allows_fewer cap total (k + rest) (bound rest solvable) allowed)
@@ -188,12 +216,36 @@ opens_one board cap from opened new o is by = subst (Opens board cap from opened
 pub listed_last : (opened new : List Opened) (o : Opened) → new ≡ opened ++ o ∷ [] → IsOpenedPosition new o.position
 listed_last opened new o is = subst (λ (os : List Opened). IsOpenedPosition os o.position) (sym is) (length opened, o, at_seam opened o, refl)
 
+-- what an expansion has kept stays kept where it opens more
+pub kept_on : (all : List Entry) (k : ℕ) (old new : List Opened) → ((t : Scene) → IsOpenedPosition old t → IsOpenedPosition new t) → (t : Scene) →
+    IsKept all k old t → IsKept all k new t
+kept_on all k old new still t (inl opened) = inl (still t opened)
+kept_on all k old new still t (inr found) = inr found
+
 -- where each position that was opened has entered, what the expansion keeps was found
-pub expands_found : (board : Board) (cap : Option ℕ) (opened : List Opened) (all : List Entry) (k : ℕ) (s : Scene) →
-    ((t : Scene) → IsOpenedPosition opened t → IsFoundWithin all (suc k) t) → Expands board cap (IsOpenedPosition opened) k s →
+pub expands_found : (board : Board) (cap : Option ℕ) (opened : List Opened) (old all : List Entry) (k : ℕ) (s : Scene) → KeepPlaces old all →
+    ((t : Scene) → IsOpenedPosition opened t → IsFoundWithin all (suc k) t) → Expands board cap (IsKept old k opened) k s →
     Expands board cap (IsFoundWithin all (suc k)) k s
-expands_found board cap opened all k s entered expands most allowed =
-    keeps_so board (IsOpenedPosition opened) (IsFoundWithin all (suc k)) most k s entered (expands most allowed)
+expands_found board cap opened old all k s still entered expands most allowed =
+    keeps_so board (IsKept old k opened) (IsFoundWithin all (suc k)) most k s by (expands most allowed)
+  where
+    by : (t : Scene) → IsKept old k opened t → IsFoundWithin all (suc k) t
+    by t (inl o) = entered t o
+    by t (inr found) = found_on old all (suc k) t still found
+
+-- an expansion beside what was found is one beside what is found later
+pub expansion_on : (board : Board) (cap : Option ℕ) (old new : List Entry) (from : Expanded) (opened : List Opened) (next : Option ℕ) → KeepPlaces old new →
+    IsExpansion board cap old from opened next → IsExpansion board cap new from opened next
+expansion_on board cap old new from opened next still expansion = record {
+  each = expansion.each;
+  expands = λ most allowed. keeps_so board (IsKept old from.pushes opened) (IsKept new from.pushes opened) most from.pushes from.position by
+      (expansion.expands most allowed);
+  later = expansion.later;
+}
+  where
+    by : (t : Scene) → IsKept old from.pushes opened t → IsKept new from.pushes opened t
+    by t (inl o) = inl o
+    by t (inr found) = inr (found_on old new (suc from.pushes) t still found)
 
 -- the next of them has entered
 pub entered_more : (old new : List Entry) (opened : List Opened) (k i : ℕ) (o : Opened) → KeepPlaces old new → slice_get opened i ≡ Some o →
@@ -229,16 +281,16 @@ leading_more board s n p ps scene can norm (ds, t, play, here) =
       norm,
     )
 
-pub reached_after : (board : Board) (s n : Scene) (p : Push) → IsScene board s → CanPush board s p → IsNorm board (after_push board s p) n →
-    IsReachable board s →
-    IsReachable board n
-reached_after board s n p scene can norm (ds, ps, t, play, here) =
-    let (es, u, more, end) = leading_more board s n p ps scene can norm (ds, t, play, here) in (es, ps ++ p ∷ [], u, more, end)
+pub reached_after : (board : Board) (k : ℕ) (s n : Scene) (p : Push) → IsScene board s → CanPush board s p → IsNorm board (after_push board s p) n →
+    IsReachedAfter board k s → IsReachedAfter board (suc k) n
+reached_after board k s n p scene can norm (ds, ps, t, play, here, long) =
+    let (es, u, more, end) = leading_more board s n p ps scene can norm (ds, t, play, here) in
+    (es, ps ++ p ∷ [], u, more, end, (let size = length-append ps (p ∷ []) in omega (arith, size, long)))
 
 -- ---- positions enter, and are closed
 
 pub under_way_entered : (board : Board) (cap : Option ℕ) (old new : List Entry) (e : Entry) (least : ℕ) → IsSearchUnderWay board cap old → Enters old new e →
-    FitsLevel board e.position → IsReachable board e.position → e.pushes ≤ length old → ComesFrom board new e e.parent → e.least ≡ Some least →
+    FitsLevel board e.position → IsReachedAfter board e.pushes e.position → e.pushes ≤ length old → ComesFrom board new e e.parent → e.least ≡ Some least →
     IsTotal board cap e.pushes e.position least → IsSearchUnderWay board cap new
 under_way_entered board cap old new e least under enters fits reached few from is total = record {
   begun = (under.begun.0, under.begun.1, found_on old new 0 under.begun.0 enters.still under.begun.2);
@@ -258,6 +310,18 @@ under_way_entered board cap old new e least under enters fits reached few from i
           (record { near = total.near; allowed = total.allowed });
       settled = settled_open board cap new e least is total.bound;
     }
+
+-- a position that gets another least total keeps its place, and so do all others
+kept_set : (old : List Entry) (place : ℕ) (x : Entry) (least : Option ℕ) → slice_get old place ≡ Some x → KeepPlaces old (set old place (with_least least x))
+kept_set old place x least here i z there = elim (cases_eq i place) [
+  | inl eq ↦ (let e : z ≡ x = same_Some z x (sym there ∙ (ap (λ (k : ℕ). slice_get old k) eq ∙ here)) in (
+    with_least least x,
+    ap (λ (k : ℕ). slice_get (set old place (with_least least x)) k) eq ∙ set_here old place (with_least least x) (slice_get_within old place x here),
+    ap (λ (w : Entry). w.position) (sym e),
+    (let f = ap (λ (w : Entry). w.pushes) e in omega (arith, f)),
+  ))
+  | inr ne ↦ (z, set_there old place i (with_least least x) ne ∙ there, refl, omega arith)
+]
 
 pub under_way_set : (board : Board) (cap : Option ℕ) (old new : List Entry) (place : ℕ) (x : Entry) (least : Option ℕ) → IsSearchUnderWay board cap old →
     slice_get old place ≡ Some x → ((n : ℕ) → least ≡ Some n → IsLeast cap x.pushes n) →
@@ -281,15 +345,7 @@ under_way_set board cap old new place x least under here total settled has = sub
     after = set old place y
 
     still : KeepPlaces old after
-    still i z there = elim (cases_eq i place) [
-      | inl eq ↦ (let e : z ≡ x = same_Some z x (sym there ∙ (ap (λ (k : ℕ). slice_get old k) eq ∙ here)) in (
-        y,
-        ap (λ (k : ℕ). slice_get after k) eq ∙ set_here old place y (slice_get_within old place x here),
-        ap (λ (w : Entry). w.position) (sym e),
-        (let f = ap (λ (w : Entry). w.pushes) e in omega (arith, f)),
-      ))
-      | inr ne ↦ (z, set_there old place i y ne ∙ there, refl, omega arith)
-    ]
+    still = kept_set old place x least here
 
     sound : IsSoundEntry board cap after y
     sound =
@@ -312,8 +368,8 @@ pub under_way_after : (board : Board) (cap : Option ℕ) (old new : List Entry) 
     Enters old new (record { position = n; pushes = suc k; least = Some least; parent = Some (record { place = place; push = p }) }) → IsSearchUnderWay board cap new
 under_way_after board cap old new place k least s n p under (x, at, same, count) can norm fits total enters =
     under_way_entered board cap old new _ least under enters fits
-    (reached_after board s n p (subst (IsScene board) same (under.sound place x at).fits.scene) can norm
-    (subst (IsReachable board) same (under.sound place x at).reached))
+    (reached_after board k s n p (subst (IsScene board) same (under.sound place x at).fits.scene) can norm
+    (subst (IsReachedAfter board k) same (subst (λ (j : ℕ). IsReachedAfter board j x.position) count (under.sound place x at).reached)))
     (let lt = under.few place x at in omega (arith, lt, count)) (
       x,
       enters.below place x at (omega (arith, count)),
@@ -333,10 +389,18 @@ expanding_fits board cap v from expanding =
 
 -- ---- an expansion goes on
 
+pub goes_then : (first second third : List Entry) → GetsOn first second → GetsOn second third → GetsOn first third
+goes_then first second third one two =
+    let a = one.more in
+    let b = two.more in record {
+      still = kept_then first second third one.still two.still;
+      more = omega (arith, a, b);
+      turns = λ limit le. (let p = one.turns limit (omega (arith, b, le)) in let q = two.turns limit le in omega (arith, p, q));
+    }
+
 pub widens_none : (board : Board) (cap : Option ℕ) (k : ℕ) (v : VisitedView) → IsSearchOnBoard board cap v → Widens board cap k v v
 widens_none board cap k v searched = record {
   searched = searched;
-  still = λ i x at. (x, at, refl, omega arith);
   below = λ i x at le. at;
   goes_on = same_turns v.entries v.entries refl;
 }
@@ -346,14 +410,8 @@ pub widens_then : (board : Board) (cap : Option ℕ) (k : ℕ) (first second thi
     Widens board cap k first third
 widens_then board cap k first second third one two = record {
   searched = two.searched;
-  still = λ i x at. (let (y, there, same, less) = one.still i x at in let (z, here, alike, fewer) = two.still i y there in
-      (z, here, alike ∙ same, omega (arith, less, fewer)));
   below = λ i x at le. two.below i x (one.below i x at le) le;
-  goes_on = record {
-    more = (let p = one.goes_on.more in let q = two.goes_on.more in omega (arith, p, q));
-    turns = λ limit le. (let q = two.goes_on.turns limit le in let r = two.goes_on.more in let p = one.goes_on.turns limit (omega (arith, r, le)) in
-        omega (arith, p, q));
-  };
+  goes_on = goes_then first.entries second.entries third.entries one.goes_on two.goes_on;
 }
 
 pub expanding_on : (board : Board) (cap : Option ℕ) (old new : VisitedView) (from : Expanded) → IsExpanding board cap old from →
@@ -389,7 +447,7 @@ under_way_first board cap old new n norm fits none enters = record {
     first : IsSoundEntry board cap new e
     first = record {
       fits = fits;
-      reached = ([], [], start board, stay tt, norm);
+      reached = ([], [], start board, stay tt, norm, refl);
       from = norm;
       total = λ m is. subst (λ (k : ℕ). IsLeast cap 0 k) (same_Some 0 m is) (record { near = omega arith; allowed = any cap });
       settled = settled_open board cap new e 0 refl (λ rest solvable. omega arith);
@@ -432,16 +490,10 @@ goes_expanded first second third place x next on at has fewer =
     let long = length-set second place (with_least next x) in
     let size = ap (λ (xs : List Entry). length xs) (has x at) in
     let more = on.more in record {
+      still = kept_then first second third on.still
+          (subst (λ (xs : List Entry). KeepPlaces second xs) (sym (has x at)) (kept_set second place x next at));
       more = omega (arith, long, size, more);
       turns = λ limit le. (let less = fewer limit le in omega (arith, less));
-    }
-
-pub goes_then : (first second third : List Entry) → GetsOn first second → GetsOn second third → GetsOn first third
-goes_then first second third one two =
-    let a = one.more in
-    let b = two.more in record {
-      more = omega (arith, a, b);
-      turns = λ limit le. (let p = one.turns limit (omega (arith, b, le)) in let q = two.turns limit le in omega (arith, p, q));
     }
 
 pub turns_then : (limit : ℕ) (first second third : List Entry) → (length second ≤ limit → turns_left limit second < turns_left limit first) →

@@ -5,14 +5,13 @@ use Rattle.grid.specs.declared.square.Push.{Push}
 use Rattle.grid.specs.Board.{Board, Scene, IsSolved, start}
 use Rattle.grid.specs.States.{FitsLevel}
 use Rattle.grid.specs.Lawful.{IsLevel}
-use Rattle.grid.specs.Plays.{IsSolution}
+use Rattle.grid.specs.Plays.{Play, Any, IsSolution}
 use Rattle.area.specs.Area.{IsNorm}
 use Rattle.area.specs.Pushes.{CanPush}
 use Rattle.successors.specs.Expansion.{after_push}
 use Rattle.prices.specs.Solving.{Allows, SolvableWithin}
 use Rattle.store.specs.declared.visited.Parent.{Parent}
 use Rattle.store.specs.Visited.{Entry}
-use Rattle.prover.specs.Fewest.{IsReachable}
 
 -- ---- what an expansion owes
 
@@ -69,10 +68,15 @@ ComesFrom board all x None = IsNorm board (start board) x.position
 ComesFrom board all x (Some step) = (y : Entry) × (slice_get all step.place ≡ Some y) × (y.pushes < x.pushes) ×
     CanPush board y.position step.push × IsNorm board (after_push board y.position step.push) x.position
 
+-- a play with k pushes leads from the start to a state whose normal form is the position
+abbrev pub IsReachedAfter : Board → ℕ → Scene → Type 0
+IsReachedAfter board k n = (ds : List Dir) × (ps : List Push) × (s : Scene) × Play board Any (start board) ds ps s ×
+    IsNorm board s n × (length ps ≡ k)
+
 -- what is true of each position that was found
 pub record IsSoundEntry (board : Board) (cap : Option ℕ) (all : List Entry) (x : Entry) : Type 0 where
   pub fits : FitsLevel board x.position
-  pub reached : IsReachable board x.position
+  pub reached : IsReachedAfter board x.pushes x.position
   pub from : ComesFrom board all x x.parent
   pub total : (least : ℕ) → x.least ≡ Some least → IsLeast cap x.pushes least
   pub settled : IsSettled board cap all x

@@ -24,6 +24,10 @@ SolutionsAlike board = IsLevel board → (s t u : Scene) (ds es : List Dir) (ps 
 abbrev pub SomeHas : Board → ℕ → Type 0
 SomeHas board pushes = (ds : List Dir) × (ps : List Push) × IsSolution board ds ps × (length ps ≡ pushes)
 
+-- the numbers of pushes of all solutions are odd, or all even
+abbrev pub AreOdd : Board → Bool → Type 0
+AreOdd board odd = (pushes : ℕ) → SomeHas board pushes → is_odd pushes ≡ odd
+
 -- so a solution has the fewest pushes where there is none with two pushes less
 abbrev pub TwoLessDecide : Board → Type 0
 TwoLessDecide board = IsLevel board → (m : ℕ) → SomeHas board (suc (suc m)) → NoneWithin board m (start board) →

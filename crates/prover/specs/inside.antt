@@ -4,3 +4,4 @@ pub mod Working
 pub mod SearchEnds
 pub mod Waiting
 pub mod Rounds
+pub mod Turning

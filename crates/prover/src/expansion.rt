@@ -1,16 +1,16 @@
 //! Expansions: each opens the positions that the pushes of one position lead to. It leaves out pushes that no shortest
-//! solution needs, and leaves those with a greater total for later. What it finds depends on the position, on the
-//! pushes that led to it and on the total that the search has reached, and not on what else was found.
+//! solution needs and those to positions that were found with as few pushes, and leaves those with a greater total for
+//! later.
 ghost use Rattle.std.specs.Prelude.{◌≡◌, ℕ, ◌<◌, ◌≤◌, OnOk, [], length};
-ghost use Rattle.prover.specs.inside.Working.{GetsOn, IsExpandable, IsExpansion, MayBeExpanded, IsSearchOnBoard};
-ghost use Rattle.prover.specs.inside.Working.{IsWaiting, turns_left};
+ghost use Rattle.prover.specs.inside.Working.{GetsOn, HasSize, IsExpandable, IsExpansion, IsSearchOnBoard};
+ghost use Rattle.prover.specs.inside.Working.{IsWaiting, MayBeExpanded, turns_left};
 
 use crate::frontier::Frontier;
 use crate::pruner::Pruner;
 use crate::pushing::{Expanded, try_push};
 use crate::recording::enter;
 use crate::workspace::Workspace;
-use prices::{Matching, Slack};
+use prices::Slack;
 use std::alloc::AllocError;
 
 /// Expands an open position for totals up to `from.reach`. Its least total becomes the least of the totals that are
@@ -31,7 +31,7 @@ pub(crate) fn expand(
         turns_left limit frontier.new.entries < turns_left limit frontier.old.entries) }
     ensures task { workspace.new.expander.task ≡ workspace.old.expander.task }
 {
-    open_all(pruner, from, workspace)?;
+    open_all(pruner, frontier, from, workspace)?;
     enter(
         pruner,
         frontier,
@@ -41,25 +41,26 @@ pub(crate) fn expand(
     )
 }
 
-/// Opens the positions that the pushes of a position lead to, up to a total. The workspace then holds these, and the
-/// least total of those that are left for later.
+/// Opens the positions that the pushes of a position lead to, up to a total, except those that the frontier has with as
+/// few pushes. The workspace then holds the opened positions, and the least total of those that are left for later.
 pub(crate) fn open_all(
     pruner: &Pruner<'_>,
+    frontier: &Frontier,
     from: &Expanded,
     workspace: &mut Workspace<'_>,
 ) -> Result<(), AllocError>
+    requires size { HasSize pruner.now.board frontier.now }
     requires expandable { IsExpandable pruner.now.board from.now }
     requires task { workspace.old.expander.task ≡ pruner.now }
-    ensures expansion { OnOk result (IsExpansion pruner.now.board pruner.now.cap from.now workspace.new.opened.items
-        workspace.new.next) }
+    ensures expansion { OnOk result (IsExpansion pruner.now.board pruner.now.cap frontier.now.entries from.now
+        workspace.new.opened.items workspace.new.next) }
     ensures task { workspace.new.expander.task ≡ workspace.old.expander.task }
 {
     workspace.opened.clear();
     workspace.expander.find_pushes(&from.position);
     pruner.level().tell();
     workspace.next = None;
-    // a fresh matching, so that nothing depends on what was expanded before
-    workspace.matching = Matching::new();
+    workspace.matching.copy_from(pruner.seed());
     pruner
         .distances()
         .meet(&from.position, &mut workspace.matching);
@@ -80,7 +81,7 @@ pub(crate) fn open_all(
     );
     for index in 0..workspace.expander.pushes().len() {
         let push = workspace.expander.pushes()[index];
-        try_push(pruner, from, push, &slack, only, workspace)?;
+        try_push(pruner, frontier, from, push, &slack, only, workspace)?;
     }
     Ok(())
 }

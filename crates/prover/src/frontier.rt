@@ -6,7 +6,7 @@ ghost use Rattle.grid.specs.Lawful.{box_count};
 ghost use Rattle.store.specs.FoundView.{FitsGrid};
 ghost use Rattle.store.specs.Visited.{Entry};
 ghost use Rattle.successors.specs.Distances.{AreDistinct};
-ghost use Rattle.prover.specs.Frontier.{NoneIsOpen};
+ghost use Rattle.prover.specs.Frontier.{IsFoundWithin, NoneIsOpen};
 ghost use Rattle.std.specs.BinaryHeap.{heap_capacity, heap_items, heap_len};
 ghost use Rattle.prover.specs.inside.Waiting.{tickets};
 ghost use Rattle.prover.specs.inside.Working.{Enters, HasLeastAt, IsLeastOpen, IsQueued, IsWaiting, SameSize, Waits};
@@ -205,6 +205,17 @@ impl Frontier {
         }
         let position = self.visited.position(place);
         position == from.position
+    }
+
+    /// Whether a position was found with at most this many pushes.
+    pub(crate) fn has_within(&self, position: &Position, pushes: u32) -> bool
+        requires { FitsGrid self.now.boxes self.now.squares position.now }
+        ensures { IsTrue result → IsFoundWithin self.now.entries pushes position.now }
+    {
+        match self.visited.find(position) {
+            Some(place) => self.visited.label(place).pushes <= pushes,
+            None => false,
+        }
     }
 
     /// About [`SAMPLES`] of the open positions whose least total is at most `reach`. Which of them has no contract.

@@ -1,10 +1,12 @@
 //! Lanes: each expands some positions of a round, one after the other, in a workspace of its own.
-ghost use Rattle.std.specs.Prelude.{◌≡◌, IfOk, OnOk};
+ghost use Rattle.std.specs.Prelude.{◌≡◌, List, IfOk, OnOk};
+ghost use Rattle.store.specs.Visited.{Entry};
 ghost use Rattle.successors.specs.Tasks.{Task};
 ghost use Rattle.prover.specs.inside.Rounds.{AreJobs, IsJob, IsLane};
-ghost use Rattle.prover.specs.inside.Working.{MayBeExpanded};
+ghost use Rattle.prover.specs.inside.Working.{HasSize, MayBeExpanded};
 
 use crate::expansion::open_all;
+use crate::frontier::Frontier;
 use crate::pruner::Pruner;
 use crate::pushing::{Expanded, Opened};
 use crate::workspace::Workspace;
@@ -21,8 +23,9 @@ pub(crate) struct Job {
     pub(crate) is_done: bool,
 }
 
-/// A workspace with the jobs of a round that are done in it. What a lane finds depends on its workspace and its jobs
-/// alone, and the jobs that it is dealt do not depend on the number of workers: so nothing that is found does.
+/// A workspace with the jobs of a round that are done in it. What a lane finds depends on its jobs and on what was found
+/// before the round, and the jobs that it is dealt do not depend on the number of workers: so nothing that is found
+/// does.
 #[derive(Debug, Drop)]
 pub(crate) struct Lane<'a> {
     pub(crate) workspace: Workspace<'a>,
@@ -32,7 +35,7 @@ pub(crate) struct Lane<'a> {
 impl<'a> Lane<'a> {
     /// A lane without jobs. Fails only if out of memory.
     pub(crate) fn new(alloc: Global, pruner: &Pruner<'a>) -> Result<Lane<'a>, AllocError>
-        ensures { IfOk result (IsLane pruner.now) }
+        ensures { IfOk result (λ lane. (all : List Entry) → IsLane pruner.now all lane) }
     {
         Ok(Lane {
             workspace: Workspace::new(alloc, pruner.problem())?,
@@ -42,7 +45,7 @@ impl<'a> Lane<'a> {
 
     /// Forgets the jobs.
     pub(crate) fn clear(&mut self)
-        ensures { (t : Task) → IsLane t self.old → IsLane t self.new }
+        ensures { (t : Task) (all : List Entry) → IsLane t all self.old → IsLane t all self.new }
     {
         self.jobs.clear();
     }
@@ -54,9 +57,8 @@ impl<'a> Lane<'a> {
         pruner: &Pruner<'_>,
         from: Expanded,
     ) -> Result<(), AllocError>
-        requires ready { MayBeExpanded pruner.now.board from }
-        requires lane { IsLane pruner.now self.old }
-        ensures { OnOk result (IsLane pruner.now self.new) }
+        requires { MayBeExpanded pruner.now.board from }
+        ensures { OnOk result ((all : List Entry) → IsLane pruner.now all self.old → IsLane pruner.now all self.new) }
     {
         self.jobs.push(Job {
             from,
@@ -69,33 +71,41 @@ impl<'a> Lane<'a> {
 }
 
 /// Does the jobs of a lane. One that runs out of memory stays undone.
-pub(crate) fn do_jobs(pruner: &Pruner<'_>, lane: &mut Lane<'_>)
-    requires { IsLane pruner.now lane.old }
-    ensures { IsLane pruner.now lane.new }
+pub(crate) fn do_jobs(pruner: &Pruner<'_>, frontier: &Frontier, lane: &mut Lane<'_>)
+    requires size { HasSize pruner.now.board frontier.now }
+    requires lane { IsLane pruner.now frontier.now.entries lane.old }
+    ensures { IsLane pruner.now frontier.now.entries lane.new }
 {
-    do_all(pruner, lane.jobs.as_mut_slice(), &mut lane.workspace);
+    do_all(
+        pruner,
+        frontier,
+        lane.jobs.as_mut_slice(),
+        &mut lane.workspace,
+    );
 }
 
 // Does all jobs.
-fn do_all(pruner: &Pruner<'_>, jobs: &mut [Job], workspace: &mut Workspace<'_>)
-    requires jobs { AreJobs pruner.now jobs.old }
+fn do_all(pruner: &Pruner<'_>, frontier: &Frontier, jobs: &mut [Job], workspace: &mut Workspace<'_>)
+    requires size { HasSize pruner.now.board frontier.now }
+    requires jobs { AreJobs pruner.now frontier.now.entries jobs.old }
     requires task { workspace.old.expander.task ≡ pruner.now }
-    ensures jobs { AreJobs pruner.now jobs.new }
+    ensures jobs { AreJobs pruner.now frontier.now.entries jobs.new }
     ensures task { workspace.new.expander.task ≡ pruner.now }
 {
     for index in 0..jobs.len() {
-        do_job(pruner, &mut jobs[index], workspace);
+        do_job(pruner, frontier, &mut jobs[index], workspace);
     }
 }
 
 // Does a job.
-fn do_job(pruner: &Pruner<'_>, job: &mut Job, workspace: &mut Workspace<'_>)
-    requires job { IsJob pruner.now job.old }
+fn do_job(pruner: &Pruner<'_>, frontier: &Frontier, job: &mut Job, workspace: &mut Workspace<'_>)
+    requires size { HasSize pruner.now.board frontier.now }
+    requires job { IsJob pruner.now frontier.now.entries job.old }
     requires task { workspace.old.expander.task ≡ pruner.now }
-    ensures job { IsJob pruner.now job.new }
+    ensures job { IsJob pruner.now frontier.now.entries job.new }
     ensures task { workspace.new.expander.task ≡ pruner.now }
 {
-    let done = open_all(pruner, &job.from, workspace).is_ok();
+    let done = open_all(pruner, frontier, &job.from, workspace).is_ok();
     job.is_done = done;
     job.next = workspace.next;
     swap(&mut job.opened, &mut workspace.opened);

@@ -15,9 +15,10 @@
 //! player at the bottom right:
 //!
 //! ```text
-//! let best = prover::search(&rt, alloc, &level, None, 1_000, 1).expect(&rt, "memory");
+//! let progress = &mut Unheard;
+//! let best = prover::search(&rt, alloc, &level, None, 1_000, 1, progress).expect(&rt, "memory");
 //! assert!(&rt; matches!(&best, Outcome::Least { pushes: 2, .. }));
-//! let fewer = prover::search(&rt, alloc, &level, Some(1), 1_000, 2).expect(&rt, "memory");
+//! let fewer = prover::search(&rt, alloc, &level, Some(1), 1_000, 2, progress).expect(&rt, "memory");
 //! assert!(&rt; matches!(&fewer, Outcome::NoneWithin));
 //! ```
 #![tactic(auto)]
@@ -27,6 +28,8 @@ mod frontier;
 mod lane;
 pub mod laws;
 mod outcome;
+mod parity;
+mod progress;
 mod pruner;
 mod pushing;
 mod queue;
@@ -37,4 +40,5 @@ mod searching;
 mod workspace;
 
 pub use outcome::{Outcome, SearchFault};
+pub use progress::{Progress, Unheard};
 pub use searching::search;

@@ -14,7 +14,8 @@ pub enum Outcome {
     NoneWithin,
     /// The level has no solution.
     Unsolvable,
-    /// The search found more positions than the limit; every solution has at least this many pushes.
+    /// The search found more positions than the limit; every solution has at least this many pushes, a number that the
+    /// cap allows.
     Limit { at_least: u32 },
 }
 
@@ -24,15 +25,15 @@ pub enum SearchFault {
     /// The level has more boxes than [`MAX_BOXES`](grid::MAX_BOXES).
     #[error("more than {MAX_BOXES} boxes")]
     TooManyBoxes,
-    /// The search ran out of memory.
+    /// The search ran out of memory. Every solution has at least this many pushes.
     #[error("out of memory")]
-    OutOfMemory,
+    OutOfMemory { at_least: u32 },
 }
 
 impl From<AllocError> for SearchFault {
-    ghost from_gives = { λ _ fault. fault ≡ OutOfMemory };
+    ghost from_gives = { λ _ fault. fault ≡ OutOfMemory 0 };
 
     fn from(_error: AllocError) -> Self {
-        SearchFault::OutOfMemory
+        SearchFault::OutOfMemory { at_least: 0 }
     }
 }

@@ -3,11 +3,13 @@ ghost use Rattle.grid.specs.Lawful.{box_count};
 ghost use Rattle.grid.specs.States.{FitsLevel};
 ghost use Rattle.doom.specs.Lost.{IsLost};
 ghost use Rattle.prices.specs.Solving.{Allows};
-ghost use Rattle.prover.specs.Frontier.{IsBound, IsTotal, NoneGoesOn};
+ghost use Rattle.prover.specs.Frontier.{IsReachedAfter, IsBound, IsTotal, NoneGoesOn};
+ghost use Rattle.prover.specs.Parity.{SomeHas};
 
+use crate::parity::{are_odd, next_of};
 use grid::{Level, MAX_BOXES, Position};
-use prices::{Distances, Matching, NEVER};
-use regions::{Plan, Regions, Task};
+use prices::{Distances, Matching};
+use regions::{Job, Plan, Regions};
 use spreading::for_each_spread;
 use std::alloc::{AllocError, Global};
 use std::marker::Model;
@@ -20,17 +22,22 @@ use successors::Problem;
 pub(crate) struct Pruner<'a> {
     problem: &'a Problem,
     regions: Regions,
+    // the matching of the start
+    seed: Matching,
+    // whether the solutions have an odd number of pushes
+    odd: bool,
 }
 
 impl<'a> Model for Pruner<'a> {
     ghost use Rattle.std.specs.Prelude.{◌≡◌};
+    ghost use Rattle.prover.specs.Parity.{AreOdd};
     ghost use Rattle.successors.specs.Tasks.{Task};
 
     ghost Value = { Task };
 
     ghost view = { λ a. a.problem.now };
 
-    ghost invariant = { λ a. a.regions ≡ a.problem.now.board };
+    ghost invariant = { λ a. (a.regions ≡ a.problem.now.board) × AreOdd a.problem.now.board a.odd };
 }
 
 impl<'a> Pruner<'a> {
@@ -39,9 +46,16 @@ impl<'a> Pruner<'a> {
         requires { box_count problem.now.board ≤ MAX_BOXES }
         ensures { IfOk result (λ pruner. pruner ≡ problem.now) }
     {
+        let regions = Regions::of_prices(alloc, problem.level())?;
+        let mut seed = Matching::new();
+        if let Some(first) = Position::start(problem.level()) {
+            regions.distances().meet(&first, &mut seed);
+        }
         Ok(Pruner {
             problem,
-            regions: Regions::of_prices(alloc, problem.level())?,
+            regions,
+            seed,
+            odd: are_odd(problem.level()),
         })
     }
 
@@ -59,8 +73,7 @@ impl<'a> Pruner<'a> {
         let level = self.problem.level();
         let mut plan = self.regions.plan(alloc, level, bytes)?;
         run_plan(rt, alloc, workers, &mut plan)?;
-        self.regions.take(level, plan);
-        Ok(())
+        self.regions.take(alloc, level, plan)
     }
 
     /// Chooses regions that suit sampled positions, and makes their tables as [`Pruner::make_tables`] does. Fails only
@@ -78,8 +91,7 @@ impl<'a> Pruner<'a> {
         let level = self.problem.level();
         let mut plan = self.regions.plan_for(alloc, level, bytes, samples)?;
         run_plan(rt, alloc, workers, &mut plan)?;
-        self.regions.take_later(level, plan);
-        Ok(())
+        self.regions.take_later(alloc, level, plan)
     }
 
     /// The problem.
@@ -103,6 +115,12 @@ impl<'a> Pruner<'a> {
         self.regions.distances()
     }
 
+    /// The matching of the start, from which that of any position is mended. It never changes, so what a search finds
+    /// of a position does not depend on what it expanded before.
+    pub(crate) fn seed(&self) -> &Matching {
+        &self.seed
+    }
+
     // A lower bound on the pushes of a play that leads to the position with `pushes` of them and goes on to a solved
     // one. `None` only if no play from the position ends solved.
     fn total(&self, position: &Position, pushes: u32, matching: &mut Matching) -> Option<u32>
@@ -110,35 +128,27 @@ impl<'a> Pruner<'a> {
         ensures bound { IfSome result (λ total. (pushes ≤ total) × IsBound self.now.board pushes position.now total) }
         ensures lost { IfNone result (IsLost self.now.board position.now) }
     {
-        let low = self.regions.lower(position, matching);
-        if low >= u64::from(NEVER) {
-            let lost = self.regions.distances().is_lost(position, matching);
-            if lost {
-                return None;
-            }
-            let dead = self.regions.is_dead(position);
-            if dead {
-                return None;
-            }
-        }
+        let low = self.regions.lower(position, matching)?;
         Some(total_of(pushes, low))
     }
 
-    /// The total, if the cap allows it. `None` only if no play that the cap allows leads to the position with `pushes`
-    /// pushes and goes on to a solved one.
+    /// The total, rounded up to the parity of all solutions, if the cap allows it. `None` only if no play that the cap
+    /// allows leads to the position with `pushes` pushes and goes on to a solved one.
     pub(crate) fn allowed_total(
         &self,
         position: &Position,
         pushes: u32,
         matching: &mut Matching,
     ) -> Option<u32>
-        requires { FitsLevel self.now.board position.now }
+        requires fits { FitsLevel self.now.board position.now }
+        requires reached { IsReachedAfter self.now.board pushes position.now }
         ensures total { IfSome result (λ total. IsTotal self.now.board self.now.cap pushes position.now total) }
         ensures none { IfNone result (NoneGoesOn self.now.board self.now.cap pushes position.now) }
     {
         let Some(total) = self.total(position, pushes, matching) else {
             return None;
         };
+        let total = self.rounded(total);
         let allowed = self.allows(total);
         if !allowed {
             return None;
@@ -154,6 +164,14 @@ impl<'a> Pruner<'a> {
             None => true,
             Some(most) => pushes <= most,
         }
+    }
+
+    /// The least number from this one on that some solution may have by its parity. `u32::MAX` stays.
+    pub(crate) fn rounded(&self, pushes: u32) -> u32
+        ensures near { pushes ≤ result }
+        ensures least { (n : ℕ) → SomeHas self.now.board n → pushes ≤ n → result ≤ n }
+    {
+        next_of(self.odd, pushes)
     }
 
     /// How many more pushes the cap allows after `pushes` of them and the next one.
@@ -174,25 +192,25 @@ fn run_plan<R: Threads + Sync>(
     workers: u8,
     plan: &mut Plan,
 ) -> Result<(), AllocError> {
-    let done = run_each(rt, alloc, workers, plan.tasks());
+    let done = run_each(rt, alloc, workers, plan.jobs());
     if !done {
         // memory ran out where several tables were made at once: one after the other takes less
-        for task in plan.tasks() {
-            task.run(alloc)?;
+        for job in plan.jobs() {
+            job.run(alloc)?;
         }
     }
     Ok(())
 }
 
-// Runs the tasks in at most `workers` threads. Returns whether none of them ran out of memory.
-fn run_each<R: Threads + Sync>(rt: &R, alloc: Global, workers: u8, tasks: &mut [Task]) -> bool {
+// Runs the jobs in at most `workers` threads. Returns whether none of them ran out of memory.
+fn run_each<R: Threads + Sync>(rt: &R, alloc: Global, workers: u8, jobs: &mut [Job]) -> bool {
     let failed = AtomicBool::new(false);
     for_each_spread(
         rt,
-        tasks,
+        jobs,
         workers as usize,
-        &|_, task: &mut Task| {
-            if task.run(alloc).is_err() {
+        &|_, job: &mut Job| {
+            if job.run(alloc).is_err() {
                 failed.store(true, Ordering::SeqCst);
             }
         },

@@ -2,9 +2,10 @@
 ghost use Rattle.std.specs.Prelude.{◌≡◌, ◌+◌, ℕ, suc, OnOk};
 ghost use Rattle.area.specs.Pushes.{CanPush};
 ghost use Rattle.successors.specs.Expanding.{HasPushesOf};
-ghost use Rattle.prover.specs.inside.Working.{Defers, IsChosen, IsExpandable, IsOpenedPosition, IsPushDone, Opens};
+ghost use Rattle.prover.specs.inside.Working.{Defers, HasSize, IsChosen, IsExpandable, IsKept, IsPushDone, Opens};
 ghost use Rattle.prover.specs.inside.Working.{lesser_total, tighter};
 
+use crate::frontier::Frontier;
 use crate::pruner::{Pruner, total_of};
 use crate::workspace::Workspace;
 use grid::{Position, Push};
@@ -34,6 +35,7 @@ pub(crate) struct Opened {
 #[tactic(auto, using(crate::proofs::Steps::opens_none, crate::proofs::Deferring::defers_none))]
 pub(crate) fn try_push(
     pruner: &Pruner<'_>,
+    frontier: &Frontier,
     from: &Expanded,
     push: Push,
     slack: &Slack<'_>,
@@ -44,10 +46,12 @@ pub(crate) fn try_push(
     requires found { HasPushesOf workspace.old.expander from.now.position }
     requires possible { CanPush pruner.now.board from.now.position push }
     requires expandable { IsExpandable pruner.now.board from.now }
+    requires size { HasSize pruner.now.board frontier.now }
     requires slack { (slack.now.board ≡ pruner.now.board) × (slack.now.scene ≡ from.now.position) }
     ensures taken { OnOk result (IsChosen only workspace.old.corral.held push →
         IsPushDone pruner.now.board (tighter pruner.now.cap workspace.new.next)
-        (IsOpenedPosition workspace.new.opened.items) from.now.pushes from.now.position push) }
+        (IsKept frontier.now.entries from.now.pushes workspace.new.opened.items) from.now.pushes from.now.position
+        push) }
     ensures defers { OnOk result (Defers pruner.now.cap from.now.reach workspace.old.next workspace.new.next) }
     ensures opens { OnOk result (Opens pruner.now.board pruner.now.cap from.now workspace.old.opened.items
         workspace.new.opened.items) }
@@ -59,7 +63,7 @@ pub(crate) fn try_push(
         return Ok(());
     }
     let least = slack.least(square, dir);
-    let low = total_of(from.pushes, least);
+    let low = pruner.rounded(total_of(from.pushes, least));
     let allowed = pruner.allows(low);
     if !allowed {
         return Ok(());
@@ -70,14 +74,15 @@ pub(crate) fn try_push(
         workspace.next = lesser(workspace.next, low);
         return Ok(());
     }
-    open_after(pruner, from, Push { square, dir }, workspace)
+    open_after(pruner, frontier, from, Push { square, dir }, workspace)
 }
 
-// Opens the position that a push leads to, unless no play that the cap allows goes on from there and ends solved. A
-// position with a total greater than `from.reach` is left for later.
+// Opens the position that a push leads to, unless the frontier has it with as few pushes, or no play that the cap
+// allows goes on from there and ends solved. A position with a total greater than `from.reach` is left for later.
 #[tactic(auto, using(crate::proofs::Steps::opens_none, crate::proofs::Deferring::defers_none))]
 fn open_after(
     pruner: &Pruner<'_>,
+    frontier: &Frontier,
     from: &Expanded,
     push: Push,
     workspace: &mut Workspace<'_>,
@@ -86,8 +91,10 @@ fn open_after(
     requires found { HasPushesOf workspace.old.expander from.now.position }
     requires possible { CanPush pruner.now.board from.now.position push }
     requires expandable { IsExpandable pruner.now.board from.now }
+    requires size { HasSize pruner.now.board frontier.now }
     ensures taken { OnOk result (IsPushDone pruner.now.board (tighter pruner.now.cap workspace.new.next)
-        (IsOpenedPosition workspace.new.opened.items) from.now.pushes from.now.position push) }
+        (IsKept frontier.now.entries from.now.pushes workspace.new.opened.items) from.now.pushes from.now.position
+        push) }
     ensures defers { OnOk result (Defers pruner.now.cap from.now.reach workspace.old.next workspace.new.next) }
     ensures opens { OnOk result (Opens pruner.now.board pruner.now.cap from.now workspace.old.opened.items
         workspace.new.opened.items) }
@@ -101,6 +108,10 @@ fn open_after(
         return Ok(());
     };
     let pushes = from.pushes + 1;
+    let found = frontier.has_within(&after, pushes);
+    if found {
+        return Ok(());
+    }
     workspace.next_matching.copy_from(&workspace.matching);
     let Some(total) = pruner.allowed_total(&after, pushes, &mut workspace.next_matching) else {
         return Ok(());

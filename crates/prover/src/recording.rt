@@ -24,7 +24,7 @@ pub(crate) fn enter(
     requires searched { IsSearchOnBoard pruner.now.board pruner.now.cap frontier.old }
     requires waits { IsWaiting frontier.old.entries from.now }
     requires ready { MayBeExpanded pruner.now.board from.now }
-    requires expansion { IsExpansion pruner.now.board pruner.now.cap from.now opened.now next }
+    requires expansion { IsExpansion pruner.now.board pruner.now.cap frontier.old.entries from.now opened.now next }
     ensures searched { OnOk result (IsSearchOnBoard pruner.now.board pruner.now.cap frontier.new) }
     ensures goes_on { OnOk result (GetsOn frontier.old.entries frontier.new.entries) }
     ensures fewer_turns { OnOk result ((limit : ℕ) → length frontier.new.entries ≤ limit →

@@ -1,8 +1,9 @@
 //! Rounds: in each the search expands several open positions side by side, and then enters what was found.
-ghost use Rattle.std.specs.Prelude.{◌≡◌, ◌<◌, ◌≤◌, ◌^◌, IfOk, OnOk, length};
+ghost use Rattle.std.specs.Prelude.{◌≡◌, ◌<◌, ◌≤◌, ◌^◌, List, IfOk, OnOk, length};
+ghost use Rattle.store.specs.Visited.{Entry};
 ghost use Rattle.successors.specs.Tasks.{Task};
 ghost use Rattle.prover.specs.inside.Rounds.{AreLanes, IsDesk, IsJob, IsLane};
-ghost use Rattle.prover.specs.inside.Working.{GetsOn, IsSearchOnBoard};
+ghost use Rattle.prover.specs.inside.Working.{GetsOn, HasSize, IsSearchOnBoard};
 
 use crate::expansion::expand;
 use crate::frontier::Frontier;
@@ -35,7 +36,7 @@ pub(crate) struct Desk<'a> {
 impl<'a> Desk<'a> {
     /// A desk without lanes. Fails only if out of memory.
     pub(crate) fn new(alloc: Global, pruner: &Pruner<'a>) -> Result<Desk<'a>, AllocError>
-        ensures { IfOk result (IsDesk pruner.now) }
+        ensures { IfOk result (λ desk. (all : List Entry) → IsDesk pruner.now all desk) }
     {
         Ok(Desk {
             workspace: Workspace::new(alloc, pruner.problem())?,
@@ -57,10 +58,10 @@ pub(crate) fn expand_more<'a, R: Threads + Sync>(
     desk: &mut Desk<'a>,
 ) -> Result<(), AllocError>
     requires searched { IsSearchOnBoard pruner.now.board pruner.now.cap frontier.old }
-    requires desk { IsDesk pruner.now desk.old }
+    requires desk { IsDesk pruner.now frontier.old.entries desk.old }
     ensures searched { OnOk result (IsSearchOnBoard pruner.now.board pruner.now.cap frontier.new) }
     ensures goes_on { OnOk result (GetsOn frontier.old.entries frontier.new.entries) }
-    ensures desk { OnOk result (IsDesk pruner.now desk.new) }
+    ensures desk { OnOk result (IsDesk pruner.now frontier.new.entries desk.new) }
 {
     let many = frontier.len() / FOUND_EACH;
     if many < 2 || frontier.len() > limit as usize {
@@ -79,6 +80,7 @@ pub(crate) fn expand_more<'a, R: Threads + Sync>(
     do_each(
         rt,
         pruner,
+        frontier,
         count.min(workers as usize),
         desk.lanes.as_mut_slice(),
     );
@@ -98,8 +100,8 @@ fn add_lanes<'a>(
     pruner: &Pruner<'a>,
     lanes: &mut Vec<Lane<'a>>,
 ) -> Result<(), AllocError>
-    requires { AreLanes pruner.now lanes.old.items }
-    ensures lanes { OnOk result (AreLanes pruner.now lanes.new.items) }
+    ensures lanes { OnOk result ((all : List Entry) → AreLanes pruner.now all lanes.old.items →
+        AreLanes pruner.now all lanes.new.items) }
     ensures all { OnOk result (LANES ≤ length lanes.new.items) }
 {
     for _ in lanes.len()..LANES {
@@ -121,10 +123,10 @@ fn deal(
 ) -> Result<usize, AllocError>
     requires searched { IsSearchOnBoard pruner.now.board pruner.now.cap frontier.old }
     requires few { length frontier.old.entries < 2 ^ 32 }
-    requires lanes { AreLanes pruner.now lanes.old }
+    requires lanes { AreLanes pruner.now frontier.old.entries lanes.old }
     requires all { LANES ≤ length lanes.old }
     ensures same { OnOk result (frontier.new ≡ frontier.old) }
-    ensures lanes { OnOk result (AreLanes pruner.now lanes.new) }
+    ensures lanes { OnOk result (AreLanes pruner.now frontier.old.entries lanes.new) }
     ensures all { OnOk result (length lanes.new ≡ length lanes.old) }
 {
     clear_all(lanes);
@@ -146,7 +148,7 @@ fn deal(
 
 // Forgets the jobs of each lane.
 fn clear_all(lanes: &mut [Lane<'_>])
-    ensures lanes { (t : Task) → AreLanes t lanes.old → AreLanes t lanes.new }
+    ensures lanes { (t : Task) (all : List Entry) → AreLanes t all lanes.old → AreLanes t all lanes.new }
     ensures all { length lanes.new ≡ length lanes.old }
 {
     for index in 0..lanes.len() {
@@ -154,10 +156,17 @@ fn clear_all(lanes: &mut [Lane<'_>])
     }
 }
 
-// Does the jobs of each lane, in at most `threads` threads.
-fn do_each<R: Threads + Sync>(rt: &R, pruner: &Pruner<'_>, threads: usize, lanes: &mut [Lane<'_>])
-    requires { AreLanes pruner.now lanes.old }
-    ensures lanes { AreLanes pruner.now lanes.new }
+// Does the jobs of each lane, in at most `threads` threads. Each job sees the frontier as it was before the round.
+fn do_each<R: Threads + Sync>(
+    rt: &R,
+    pruner: &Pruner<'_>,
+    frontier: &Frontier,
+    threads: usize,
+    lanes: &mut [Lane<'_>],
+)
+    requires size { HasSize pruner.now.board frontier.now }
+    requires lanes { AreLanes pruner.now frontier.now.entries lanes.old }
+    ensures lanes { AreLanes pruner.now frontier.now.entries lanes.new }
     ensures all { length lanes.new ≡ length lanes.old }
 {
     for_each_spread(
@@ -165,9 +174,10 @@ fn do_each<R: Threads + Sync>(rt: &R, pruner: &Pruner<'_>, threads: usize, lanes
         lanes,
         threads,
         &|_, lane: &mut Lane<'_>|
-            requires { IsLane pruner.now lane.now }
-            ensures { IsLane pruner.entry.now lane.exit.now }
-        { do_jobs(pruner, lane) },
+            requires size { HasSize pruner.now.board frontier.now }
+            requires lane { IsLane pruner.now frontier.now.entries lane.now }
+            ensures { IsLane pruner.entry.now frontier.entry.now.entries lane.exit.now }
+        { do_jobs(pruner, frontier, lane) },
     );
 }
 
@@ -182,7 +192,7 @@ fn enter_each(
     workspace: &mut Workspace<'_>,
 ) -> Result<(), AllocError>
     requires searched { IsSearchOnBoard pruner.now.board pruner.now.cap frontier.old }
-    requires lanes { AreLanes pruner.now lanes.now }
+    requires lanes { AreLanes pruner.now frontier.old.entries lanes.now }
     requires all { LANES ≤ length lanes.now }
     requires task { workspace.old.expander.task ≡ pruner.now }
     ensures searched { OnOk result (IsSearchOnBoard pruner.now.board pruner.now.cap frontier.new) }
@@ -208,7 +218,7 @@ fn enter_job(
     workspace: &mut Workspace<'_>,
 ) -> Result<(), AllocError>
     requires searched { IsSearchOnBoard pruner.now.board pruner.now.cap frontier.old }
-    requires job { IsJob pruner.now job.now }
+    requires job { IsJob pruner.now frontier.old.entries job.now }
     requires task { workspace.old.expander.task ≡ pruner.now }
     ensures searched { OnOk result (IsSearchOnBoard pruner.now.board pruner.now.cap frontier.new) }
     ensures goes_on { OnOk result (GetsOn frontier.old.entries frontier.new.entries) }

@@ -1,5 +1,5 @@
 //! The search: it expands the open position with the least total, until one is solved or none is open.
-ghost use Rattle.std.specs.Prelude.{◌≡◌, ◌⊎◌, ◌↔◌, ◌<◌, ◌≤◌, ℕ, List, Option, IfOk, IfErr, IfNone, IfSome, IsTrue};
+ghost use Rattle.std.specs.Prelude.{◌≡◌, ◌↔◌, ◌≤◌, ℕ, List, Option, IfOk, IfErr, IsTrue};
 ghost use Rattle.std.specs.Prelude.{OnOk, length};
 ghost use Rattle.grid.specs.Board.{Board, IsSolved, start};
 ghost use Rattle.grid.specs.Lawful.{box_count};
@@ -7,14 +7,14 @@ ghost use Rattle.grid.specs.States.{FitsLevel};
 ghost use Rattle.area.specs.Area.{IsNorm};
 ghost use Rattle.store.specs.Visited.{Entry};
 ghost use Rattle.successors.specs.Capping.{capped};
-ghost use Rattle.prover.specs.Fewest.{NoneHasFewer};
-ghost use Rattle.prover.specs.Outcomes.{IsOutcome};
-ghost use Rattle.prover.specs.inside.SearchEnds.{Tells, none_by};
+ghost use Rattle.prover.specs.Outcomes.{IsFault, IsOutcome};
+ghost use Rattle.prover.specs.inside.SearchEnds.{IsFloor, Tells, none_by};
 ghost use Rattle.prover.specs.inside.Working.{IsSearchOnBoard};
 
 use crate::expansion::expand;
 use crate::frontier::Frontier;
 use crate::outcome::{Outcome, SearchFault};
+use crate::progress::Progress;
 use crate::pruner::Pruner;
 use crate::retracing::solution_at;
 use crate::rounds::{Desk, expand_more};
@@ -46,13 +46,16 @@ pub(crate) enum SearchEnd {
     Closed,
     /// The position at this place is solved, and no solution has fewer pushes.
     Solved(usize),
-    /// The search found more positions than the limit. Every solution has at least this many pushes.
-    Limit(u32),
+    /// The search found more positions than the limit.
+    Limit,
 }
 
 /// Searches for a solution with the fewest pushes, in at most `workers` threads (0 counts as 1, and more than 16 as
 /// 16). With a cap it looks only for solutions with at most that many pushes. A part whose thread cannot start is done
 /// in the caller's thread, and so is what a thread had no memory for.
+///
+/// Before each round it tells `progress` how many pushes every solution has at least, as far as it knows, and how many
+/// positions it has found.
 ///
 /// Only a search with a cap gives [`Outcome::NoneWithin`], and only one without a cap gives [`Outcome::Unsolvable`].
 /// [`Outcome::Limit`] means that the search found more positions than the limit. It is tested, not proved, that a
@@ -60,44 +63,63 @@ pub(crate) enum SearchEnd {
 ///
 /// Fails with [`SearchFault::TooManyBoxes`] if the level has more than [`MAX_BOXES`](grid::MAX_BOXES) boxes, and with
 /// [`SearchFault::OutOfMemory`] if it runs out of memory.
-pub fn search<R: Threads + Sync>(
+pub fn search<R: Threads + Sync, P: Progress>(
     rt: &R,
     alloc: Global,
     level: &Level,
     cap: Option<u32>,
     limit: u32,
     workers: u8,
+    progress: &mut P,
 ) -> Result<Outcome, SearchFault>
     ensures outcome { IfOk result (λ outcome. IsOutcome level.now cap limit outcome) }
     ensures few { OnOk result (box_count level.now ≤ MAX_BOXES) }
-    ensures fault { IfErr result (λ fault. (fault ≡ SearchFault.OutOfMemory) ⊎
-        ((fault ≡ SearchFault.TooManyBoxes) × (MAX_BOXES < box_count level.now))) }
+    ensures fault { IfErr result (λ fault. IsFault level.now fault) }
 {
     let Some(first) = Position::start(level) else {
         return Err(SearchFault::TooManyBoxes);
     };
-    Ok(search_from(rt, alloc, level, &first, cap, limit, workers)?)
+    let mut at_least = 0;
+    let search = Settings {
+        cap,
+        limit,
+        workers,
+    };
+    match search_from(rt, alloc, level, &first, search, progress, &mut at_least) {
+        Ok(outcome) => Ok(outcome),
+        Err(_) => Err(SearchFault::OutOfMemory { at_least }),
+    }
 }
 
-// Searches from the start.
-fn search_from<R: Threads + Sync>(
+// The settings of a search.
+#[derive(Clone, Copy)]
+struct Settings {
+    cap: Option<u32>,
+    limit: u32,
+    workers: u8,
+}
+
+// Searches from the start. `reach` is the number of pushes that every solution is known to have at least.
+fn search_from<R: Threads + Sync, P: Progress>(
     rt: &R,
     alloc: Global,
     level: &Level,
     first: &Position,
-    cap: Option<u32>,
-    limit: u32,
-    workers: u8,
+    search: Settings,
+    progress: &mut P,
+    reach: &mut u32,
 ) -> Result<Outcome, AllocError>
     requires first { first.now ≡ start level.now }
     requires few { box_count level.now ≤ MAX_BOXES }
-    ensures { IfOk result (λ outcome. IsOutcome level.now cap limit outcome) }
+    requires floor { IsFloor level.now search.cap reach.old }
+    ensures outcome { IfOk result (λ outcome. IsOutcome level.now search.cap search.limit outcome) }
+    ensures floor { IsFloor level.now search.cap reach.new }
 {
     level.tell_start();
     let normal = normal_of(alloc, level, first)?;
-    let mut frontier = begun(alloc, level, &normal, cap)?;
-    let end = run_on(rt, alloc, level, cap, limit, workers, &mut frontier)?;
-    outcome_of(alloc, level, &frontier, cap, limit, end)
+    let mut frontier = begun(alloc, level, &normal, search.cap)?;
+    let end = run_on(rt, alloc, level, search, progress, reach, &mut frontier)?;
+    outcome_of(alloc, level, &frontier, search, *reach, end)
 }
 
 // The normal form of a position.
@@ -127,22 +149,27 @@ fn begun(
 }
 
 // Expands open positions until that decides the level, or the search has found more positions than the limit.
-fn run_on<R: Threads + Sync>(
+fn run_on<R: Threads + Sync, P: Progress>(
     rt: &R,
     alloc: Global,
     level: &Level,
-    cap: Option<u32>,
-    limit: u32,
-    workers: u8,
+    search: Settings,
+    progress: &mut P,
+    reach: &mut u32,
     frontier: &mut Frontier,
 ) -> Result<SearchEnd, AllocError>
-    requires searched { IsSearchOnBoard level.now cap frontier.old }
+    requires searched { IsSearchOnBoard level.now search.cap frontier.old }
     requires few { box_count level.now ≤ MAX_BOXES }
-    ensures searched { OnOk result (IsSearchOnBoard level.now cap frontier.new) }
-    ensures tells { IfOk result (λ end. Tells level.now cap limit frontier.new.entries end) }
+    requires floor { IsFloor level.now search.cap reach.old }
+    ensures searched { OnOk result (IsSearchOnBoard level.now search.cap frontier.new) }
+    ensures tells { IfOk result (λ end. Tells level.now search.cap search.limit frontier.new.entries end) }
+    ensures floor { IsFloor level.now search.cap reach.new }
 {
-    let problem = problem_of(alloc, level, cap)?;
-    run_over(rt, alloc, &problem, limit, workers, frontier)
+    let problem = problem_of(alloc, level, search.cap)?;
+    let Settings { limit, workers, .. } = search;
+    run_over(
+        rt, alloc, &problem, limit, workers, progress, reach, frontier,
+    )
 }
 
 // The problem of a level and a cap.
@@ -154,58 +181,74 @@ fn problem_of(alloc: Global, level: &Level, cap: Option<u32>) -> Result<Problem,
 }
 
 // The same for a problem.
-fn run_over<R: Threads + Sync>(
+fn run_over<R: Threads + Sync, P: Progress>(
     rt: &R,
     alloc: Global,
     problem: &Problem,
     limit: u32,
     workers: u8,
+    progress: &mut P,
+    reach: &mut u32,
     frontier: &mut Frontier,
 ) -> Result<SearchEnd, AllocError>
     requires searched { IsSearchOnBoard problem.now.board problem.now.cap frontier.old }
     requires few { box_count problem.now.board ≤ MAX_BOXES }
+    requires floor { IsFloor problem.now.board problem.now.cap reach.old }
     ensures searched { OnOk result (IsSearchOnBoard problem.now.board problem.now.cap frontier.new) }
     ensures tells { IfOk result (λ end. Tells problem.now.board problem.now.cap limit frontier.new.entries end) }
+    ensures floor { IsFloor problem.now.board problem.now.cap reach.new }
 {
     let mut pruner = Pruner::of(alloc, problem)?;
-    run_all(rt, alloc, &mut pruner, limit, workers, frontier)
+    run_all(
+        rt,
+        alloc,
+        &mut pruner,
+        limit,
+        workers,
+        progress,
+        reach,
+        frontier,
+    )
 }
 
 // Expands open positions. Makes tables of larger regions the more positions it has found.
-fn run_all<R: Threads + Sync>(
+fn run_all<R: Threads + Sync, P: Progress>(
     rt: &R,
     alloc: Global,
     pruner: &mut Pruner<'_>,
     limit: u32,
     workers: u8,
+    progress: &mut P,
+    reach: &mut u32,
     frontier: &mut Frontier,
 ) -> Result<SearchEnd, AllocError>
     requires searched { IsSearchOnBoard pruner.old.board pruner.old.cap frontier.old }
+    requires floor { IsFloor pruner.old.board pruner.old.cap reach.old }
     ensures searched { OnOk result (IsSearchOnBoard pruner.old.board pruner.old.cap frontier.new) }
     ensures tells { IfOk result (λ end. Tells pruner.old.board pruner.old.cap limit frontier.new.entries end) }
+    ensures floor { IsFloor pruner.old.board pruner.old.cap reach.new }
 {
-    let mut reach = 0;
     for (first, bytes, is_chosen_again) in STAGES {
         if first >= limit {
             break;
         }
-        let end = run(rt, alloc, pruner, reach, first, workers, frontier)?;
-        let Some(least) = limit_of(end) else {
+        let end = run(rt, alloc, pruner, first, workers, progress, reach, frontier)?;
+        let decided = is_decided(end);
+        if decided {
             return Ok(end);
-        };
-        reach = least;
+        }
         add_tables(
             rt,
             alloc,
             pruner,
             frontier,
-            reach,
+            *reach,
             bytes,
             is_chosen_again,
             workers,
         )?;
     }
-    run(rt, alloc, pruner, reach, limit, workers, frontier)
+    run(rt, alloc, pruner, limit, workers, progress, reach, frontier)
 }
 
 // Makes tables of regions, or of regions that are chosen again for open positions with a least total of at most
@@ -229,51 +272,51 @@ fn add_tables<R: Threads + Sync>(
     pruner.make_tables_for(rt, alloc, bytes, samples.as_slice(), workers)
 }
 
-// The number of pushes that every solution has at least, if the limit was passed.
-fn limit_of(end: SearchEnd) -> Option<u32>
-    ensures some { IfSome result (λ least. (board : Board) (cap : Option ℕ) (few : ℕ) (all : List Entry) →
-        Tells board cap few all end → NoneHasFewer board least) }
-    ensures none { IfNone result ((board : Board) (cap : Option ℕ) (few limit : ℕ) (all : List Entry) →
-        Tells board cap few all end → Tells board cap limit all end) }
+// Whether a search ended before its limit.
+fn is_decided(end: SearchEnd) -> bool
+    ensures { IsTrue result → (board : Board) (cap : Option ℕ) (few limit : ℕ) (all : List Entry) →
+        Tells board cap few all end → Tells board cap limit all end }
 {
     match end {
-        SearchEnd::Limit(least) => Some(least),
-        _ => None,
+        SearchEnd::Limit => false,
+        _ => true,
     }
 }
 
-// Expands open positions in rounds. `reach` is the greatest of the least totals that came up before.
-fn run<R: Threads + Sync>(
+// Expands open positions in rounds. `reach` is the greatest of the least totals that came up.
+fn run<R: Threads + Sync, P: Progress>(
     rt: &R,
     alloc: Global,
     pruner: &Pruner<'_>,
-    reach: u32,
     limit: u32,
     workers: u8,
+    progress: &mut P,
+    reach: &mut u32,
     frontier: &mut Frontier,
 ) -> Result<SearchEnd, AllocError>
     requires searched { IsSearchOnBoard pruner.now.board pruner.now.cap frontier.old }
-    requires told { NoneHasFewer pruner.now.board reach }
+    requires floor { IsFloor pruner.now.board pruner.now.cap reach.old }
     ensures searched { OnOk result (IsSearchOnBoard pruner.now.board pruner.now.cap frontier.new) }
     ensures tells { IfOk result (λ end. Tells pruner.now.board pruner.now.cap limit frontier.new.entries end) }
+    ensures floor { IsFloor pruner.now.board pruner.now.cap reach.new }
 {
     let mut desk = Desk::new(alloc, pruner)?;
     pruner.level().tell();
-    let mut reach = reach;
     while let Some((place, least)) = frontier.least_open()? {
-        reach = least.max(reach);
+        *reach = least.max(*reach);
+        progress.note(pruner.level(), *reach, frontier.len());
         let solved = is_solved(pruner.level(), &frontier.position(place));
         if solved {
             return Ok(SearchEnd::Solved(place));
         }
         if frontier.len() > limit as usize {
             frontier.tell();
-            return Ok(SearchEnd::Limit(reach));
+            return Ok(SearchEnd::Limit);
         }
-        let first = frontier.expanded(place, reach);
+        let first = frontier.expanded(place, *reach);
         expand(pruner, frontier, &first, &mut desk.workspace)?;
         expand_more(
-            rt, alloc, pruner, frontier, reach, limit, workers, &mut desk,
+            rt, alloc, pruner, frontier, *reach, limit, workers, &mut desk,
         )?;
     }
     Ok(SearchEnd::Closed)
@@ -291,17 +334,18 @@ fn outcome_of(
     alloc: Global,
     level: &Level,
     frontier: &Frontier,
-    cap: Option<u32>,
-    limit: u32,
+    search: Settings,
+    at_least: u32,
     end: SearchEnd,
 ) -> Result<Outcome, AllocError>
-    requires searched { IsSearchOnBoard level.now cap frontier.now }
-    requires tells { Tells level.now cap limit frontier.now.entries end }
-    ensures { IfOk result (λ outcome. IsOutcome level.now cap limit outcome) }
+    requires searched { IsSearchOnBoard level.now search.cap frontier.now }
+    requires tells { Tells level.now search.cap search.limit frontier.now.entries end }
+    requires floor { IsFloor level.now search.cap at_least }
+    ensures { IfOk result (λ outcome. IsOutcome level.now search.cap search.limit outcome) }
 {
     match end {
-        SearchEnd::Closed => Ok(none_of(cap)),
-        SearchEnd::Limit(at_least) => Ok(Outcome::Limit { at_least }),
+        SearchEnd::Closed => Ok(none_of(search.cap)),
+        SearchEnd::Limit => Ok(Outcome::Limit { at_least }),
         SearchEnd::Solved(place) => solution_at(alloc, level, frontier, place),
     }
 }

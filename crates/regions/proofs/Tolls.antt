@@ -1,5 +1,5 @@
 -- The code's sums are what boxes need under tolls.
-use Rattle.std.proofs.Common.{◌≡◌, ◌+◌, ◌<◌, ◌≤◌, ℕ, zero, suc, Bool, true, cond, eq-eqb, min, List, [], ◌∷◌, length, get_or}
+use Rattle.std.proofs.Common.{◌≡◌, ◌+◌, ◌<◌, ◌≤◌, ℕ, zero, suc, Bool, true, cond, eq-eqb, min, List, [], ◌∷◌, ◌++◌, length, length-append, get_or}
 use Rattle.std.proofs.Common.{refl, sym, ap, subst, ◌∙◌, arith}
 use Rattle.std.proofs.lemmas.Bool.{ne_eqb}
 use Rattle.grid.specs.Squares.{contains}
@@ -13,7 +13,7 @@ use Rattle.prices.specs.inside.Views.{DistancesView}
 use Rattle.prices.proofs.lemmas.Goals.{contains-goals, is_rising-goals}
 use Rattle.prices.proofs.lemmas.Tables.{place_inside}
 use Rattle.regions.specs.Regions.{CanCome}
-use Rattle.regions.specs.inside.Needs.{least_to, need_under, price_of, sum_to}
+use Rattle.regions.specs.inside.Needs.{AreNeeds, least_to, need_from, need_under, price_of, sum_to}
 
 -- ---- numbers of goals, and numbers by places
 
@@ -107,3 +107,18 @@ near_at v row b p count Found goals is counted found (g, goal, near) =
     let same : length gs ≡ length (goals_of v.level) = ap (λ (xs : List ℕ). length xs) goals in
     found (place_in gs g) (omega (arith, inside, same, counted))
     (subst (λ (xs : List ℕ). get_or xs (place_in gs g) 0 < NEVER) (sym is) near)
+
+-- a number appended to numbers, each of which is at most a bound for its place
+pub pushed_below : (f : ℕ → ℕ) (xs : List ℕ) (x : ℕ) → ((i : ℕ) → get_or xs i 0 ≤ f i) → x ≤ f (length xs) → (i : ℕ)
+    → get_or (xs ++ (x ∷ [])) i 0 ≤ f i
+pushed_below f [] x all le zero = le
+pushed_below f [] x all le (suc i) = omega arith
+pushed_below f (y ∷ ys) x all le zero = all 0
+pushed_below f (y ∷ ys) x all le (suc i) = pushed_below (λ j. f (suc j)) ys x (λ j. all (suc j)) le i
+
+pub needs_pushed : (v : DistancesView) (tolls needs : List ℕ) (x count : ℕ) → length needs ≡ count → AreNeeds v tolls needs
+    → x ≤ need_from v tolls count → (length (needs ++ (x ∷ [])) ≡ count + 1) × AreNeeds v tolls (needs ++ (x ∷ []))
+needs_pushed v tolls needs x count all are le = (
+  length-append needs (x ∷ []) ∙ ap (λ (n : ℕ). n + 1) all,
+  pushed_below (need_from v tolls) needs x are (subst (λ (n : ℕ). x ≤ need_from v tolls n) (sym all) le),
+)

@@ -1,5 +1,5 @@
 -- What the boxes of regions waste at least, on top of what each box needs by itself.
-use Rattle.std.specs.Prelude.{◌≡◌, ℕ, suc, ◌+◌, ◌≤◌, ◌<◌, true, List, [], ◌∷◌}
+use Rattle.std.specs.Prelude.{◌≡◌, ◌⊎◌, ℕ, suc, ◌+◌, ◌≤◌, ◌<◌, true, List, [], ◌∷◌}
 use Rattle.grid.specs.declared.dir.Dir.{Dir}
 use Rattle.grid.specs.Board.{Board, Scene, IsSolved, Walks, Pushes, is_goal, next}
 use Rattle.grid.specs.States.{FitsLevel}
@@ -60,6 +60,11 @@ excess_of (p ∷ ps) s = p.excess s + excess_of ps s
 abbrev pub waste_of : List Region → ℕ → Dir → ℕ
 waste_of [] q d = 0
 waste_of (p ∷ ps) q d = p.waste q d + waste_of ps q d
+
+-- one of them says that its boxes can never all be brought to goals
+abbrev pub HasEndless : List Region → Scene → Type 0
+HasEndless [] s = ⊥
+HasEndless (p ∷ ps) s = (endless ≤ p.excess s) ⊎ HasEndless ps s
 
 -- each is a part
 abbrev pub AreRegions : Board → List Region → Type 0

@@ -70,7 +70,7 @@ fn all_pass(look: &Look<'_>, steps: &Steps) -> bool
     sets_pass(look, steps, seats, 0, 0, 0, look.level.boxes())
 }
 
-// Whether the squares of the region and those where a box is seen are listed.
+// Whether the squares with a place other than 0 and those where a box is seen are listed.
 fn are_squares_listed(level: &Level, table: &RegionTable, seats: &Position) -> bool
     ensures { IsTrue result → HasSteps level.now table.now seats.now.boxes }
 {
@@ -83,7 +83,7 @@ fn are_squares_listed(level: &Level, table: &RegionTable, seats: &Position) -> b
     true
 }
 
-// Whether the square is listed, if it is one of the region, or a box on it is seen.
+// Whether the square is listed, if its place is not 0, or a box on it is seen.
 fn is_listed(table: &RegionTable, seats: &Position, square: Square) -> bool
     ensures { IsTrue result → IsListedAt table.now seats.now.boxes square }
 {

@@ -47,13 +47,13 @@ pub(crate) fn fill(
     };
     let ground = ground_of(alloc, &site)?;
     let seats = ground.seats.len();
-    if !is_small(seats, squares.len(), level.boxes(), MOST_ENTRIES) {
+    if !is_small(seats, ground.spots.len(), level.boxes(), MOST_ENTRIES) {
         return Ok(None);
     }
     let mut filling = begun(alloc, ground, level.boxes())?;
     filling.begin(&site)?;
     filling.spread_all()?;
-    Ok(Some(filling.table(alloc, squares)?))
+    Ok(Some(filling.table(alloc)?))
 }
 
 // Nothing is found yet.
@@ -76,9 +76,9 @@ impl Filling {
     // Boxes on the goals, and nowhere else, need no push, wherever the player is.
     fn begin(&mut self, site: &Site<'_>) -> Result<(), AllocError> {
         let mut home = 0;
-        for (index, square) in site.squares.iter().enumerate() {
+        for square in site.squares {
             if site.level.is_goal(*square) {
-                home |= self.ground.spot(index.saturating_add(1)).seat;
+                home |= self.ground.seat(*square);
             }
         }
         let start = self.rows.start(home);
@@ -262,7 +262,7 @@ impl Filling {
     }
 
     // The table, of what was found.
-    fn table(self, alloc: Global, squares: &[Square]) -> Result<RegionTable, AllocError> {
+    fn table(self, alloc: Global) -> Result<RegionTable, AllocError> {
         let Filling {
             ground,
             rows,
@@ -270,11 +270,9 @@ impl Filling {
             ..
         } = self;
         let keys = keys_of(alloc, &ground, rows.half)?;
-        let mut listed = Vec::with_capacity(alloc, squares.len())?;
-        listed.extend_from_slice(squares)?;
         Ok(RegionTable {
             places: ground.places,
-            squares: listed,
+            squares: ground.listed,
             keys,
             high_rows: rows.high,
             low_rows: rows.low,

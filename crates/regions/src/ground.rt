@@ -1,6 +1,6 @@
 //! The places of a region and the pulls of boxes there. They have no contract: the table that they fill is checked.
 
-use crate::rows::MOST_SEATS;
+use crate::rows::{MOST_PLACES, MOST_SEATS};
 use crate::table::{ENDLESS, Key, waste_at};
 use crate::wastes::{beside, is_live};
 use grid::{Dir, Level, Square};
@@ -34,12 +34,14 @@ pub(crate) struct Site<'a> {
     pub(crate) squares: &'a [Square],
 }
 
-/// A region's squares with their places and seats, and its pulls.
+/// The places of a region, its seats and its pulls.
 #[derive(Drop)]
 pub(crate) struct Ground {
-    /// The place of each square of the level: 0 outside the region.
+    /// The place of each square of the level, as in the table.
     pub(crate) places: Vec<u8>,
-    /// By place: 0 is outside.
+    /// The squares with a place other than 0: the seats first, in order.
+    pub(crate) listed: Vec<Square>,
+    /// By place.
     pub(crate) spots: Vec<Spot>,
     /// For each seat, in order, the place of its square.
     pub(crate) seats: Vec<u8>,
@@ -53,21 +55,24 @@ pub(crate) struct Ground {
 pub(crate) fn ground_of(alloc: Global, site: &Site<'_>) -> Result<Ground, AllocError> {
     let mut ground = Ground {
         places: vec![in alloc; 0; site.level.squares()]?,
-        spots: vec![in alloc; Spot::default(); site.squares.len().saturating_add(1)]?,
+        listed: Vec::new(alloc),
+        spots: vec![in alloc; Spot::default(); 1]?,
         seats: Vec::new(alloc),
         pulls: Vec::new(alloc),
         firsts: Vec::new(alloc),
     };
-    ground.number(site)?;
-    for square in site.squares {
+    ground.seat_all(site)?;
+    ground.place_components(alloc, site.level)?;
+    let listed = ground.listed.clone()?;
+    for square in listed.as_slice() {
         ground.connect(site.level, *square);
     }
-    for square in site.squares {
+    for square in listed.as_slice() {
         ground.list_pulls_from(site, *square)?;
     }
     let unseen = ground.pulls.len();
     ground.firsts.push(unseen)?;
-    for square in site.squares {
+    for square in listed.as_slice() {
         ground.list_pulls_into_sight(site, *square)?;
     }
     Ok(ground)
@@ -97,7 +102,7 @@ impl Ground {
         }
     }
 
-    /// The place of a square: 0 outside the region.
+    /// The place of a square.
     #[inline(always)]
     fn place(&self, square: Square) -> u8 {
         match self.places.get(square.0 as usize) {
@@ -107,26 +112,92 @@ impl Ground {
     }
 
     // The seat of a square.
-    fn seat(&self, square: Square) -> u32 {
+    pub(crate) fn seat(&self, square: Square) -> u32 {
         self.spot(self.place(square) as usize).seat
     }
 
-    // Gives the squares places, and the live ones seats.
-    fn number(&mut self, site: &Site<'_>) -> Result<(), AllocError> {
-        for (index, square) in site.squares.iter().enumerate() {
-            let number = u8::try_from(index).unwrap_or(u8::MAX).saturating_add(1);
-            if let Some(place) = self.places.as_mut_slice().get_mut(square.0 as usize) {
-                *place = number;
-            }
+    // Gives each live square of the region a seat with a place of its own.
+    fn seat_all(&mut self, site: &Site<'_>) -> Result<(), AllocError> {
+        for square in site.squares {
             let seats = self.seats.len();
             if seats < MOST_SEATS && is_live(site.level, site.wastes, *square) {
-                if let Some(spot) = self.spots.as_mut_slice().get_mut(number as usize) {
-                    spot.seat = 1 << (seats % 32);
-                }
-                self.seats.push(number)?;
+                let place = self.new_place(1 << (seats % 32))?;
+                self.seats.push(place)?;
+                self.put(*square, place)?;
             }
         }
         Ok(())
+    }
+
+    // Gives each component of the level without the seats a place: 0 to the first one, and to those for which no place
+    // is left.
+    fn place_components(&mut self, alloc: Global, level: &Level) -> Result<(), AllocError> {
+        let components = self.components(alloc, level)?;
+        for component in components.iter().skip(1) {
+            if self.spots.len() >= MOST_PLACES {
+                break;
+            }
+            let place = self.new_place(0)?;
+            for square in component.as_slice() {
+                self.put(*square, place)?;
+            }
+        }
+        Ok(())
+    }
+
+    // Adds a place. Returns its number.
+    fn new_place(&mut self, seat: u32) -> Result<u8, AllocError> {
+        let place = u8::try_from(self.spots.len()).unwrap_or(u8::MAX);
+        self.spots.push(Spot { seat, beside: 0 })?;
+        Ok(place)
+    }
+
+    // Puts a square on a place other than 0.
+    fn put(&mut self, square: Square, place: u8) -> Result<(), AllocError> {
+        if let Some(it) = self.places.as_mut_slice().get_mut(square.0 as usize) {
+            *it = place;
+        }
+        self.listed.push(square)?;
+        Ok(())
+    }
+
+    // The squares of each component of the level without the seats.
+    fn components(&self, alloc: Global, level: &Level) -> Result<Vec<Vec<Square>>, AllocError> {
+        level.tell();
+        let mut seen = vec![in alloc; false; level.squares()]?;
+        let mut components = Vec::new(alloc);
+        for index in 0..level.squares() {
+            let first = Square(index as u16);
+            if level.in_room(first) && self.seat(first) == 0 && mark(seen.as_mut_slice(), first) {
+                components.push(self.component(alloc, level, first, seen.as_mut_slice())?)?;
+            }
+        }
+        Ok(components)
+    }
+
+    // The squares that the player reaches from a square without crossing a seat. Marks them.
+    fn component(
+        &self,
+        alloc: Global,
+        level: &Level,
+        first: Square,
+        seen: &mut [bool],
+    ) -> Result<Vec<Square>, AllocError> {
+        let mut squares = Vec::new(alloc);
+        squares.push(first)?;
+        for head in 0..level.squares() {
+            let Some(from) = squares.get(head).copied() else {
+                break;
+            };
+            for dir in Dir::ALL {
+                if let Some(to) = beside(level, from, dir) {
+                    if self.seat(to) == 0 && mark(seen, to) {
+                        squares.push(to)?;
+                    }
+                }
+            }
+        }
+        Ok(squares)
     }
 
     // Connects the place of a square with those beside it.
@@ -201,4 +272,14 @@ impl Ground {
         self.pulls.push(pull)?;
         Ok(())
     }
+}
+
+// Marks a square. Returns whether it was not marked before.
+fn mark(marks: &mut [bool], square: Square) -> bool {
+    let Some(mark) = marks.get_mut(square.0 as usize) else {
+        return false;
+    };
+    let is_new = !*mark;
+    *mark = true;
+    is_new
 }

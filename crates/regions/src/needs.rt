@@ -1,15 +1,16 @@
 //! What boxes need under tolls.
-ghost use Rattle.std.specs.Prelude.{◌≡◌, ◌+◌, ◌<◌, ◌≤◌, ℕ, IsTrue, length, slice_index_or};
+ghost use Rattle.std.specs.Prelude.{◌≡◌, ◌+◌, ◌<◌, ◌≤◌, ℕ, IfOk, IsTrue, length, slice_index_or};
 ghost use Rattle.prices.specs.declared.pulls.TheConstants.{NEVER};
 ghost use Rattle.prices.specs.Prices.{goals_of, total_need};
 ghost use Rattle.prices.specs.inside.Sums.{greatest};
 ghost use Rattle.prices.specs.inside.Tables.{far_in};
 ghost use Rattle.regions.specs.Regions.{CanCome};
-ghost use Rattle.regions.specs.inside.Needs.{least_to, need_under, price_of, sum_to};
+ghost use Rattle.regions.specs.inside.Needs.{AreNeeds, least_to, need_from, need_in, need_under, price_of, sum_to};
 
 use crate::table::number_at;
 use grid::{MAX_BOXES, Position, Square};
 use prices::{Distances, NEVER};
+use std::alloc::{AllocError, Global};
 
 /// What a lone box needs, with the player on the second square.
 pub(crate) fn need(distances: &Distances, tolls: &[u32], square: Square, player: Square) -> u64
@@ -55,15 +56,43 @@ fn first_sum(numbers: &[u32], count: usize) -> u64
     sum
 }
 
-/// What all boxes of a position need.
-pub(crate) fn total_need(distances: &Distances, tolls: &[u32], position: &Position) -> u64
-    ensures { result ≡ total_need (need_under distances.now tolls.now) position.now }
+/// What a lone box needs under the tolls, by the index of its first distance; 0 at the indexes where no row begins.
+pub(crate) fn needs_of(
+    alloc: Global,
+    distances: &Distances,
+    tolls: &[u32],
+) -> Result<Vec<u32>, AllocError>
+    ensures { IfOk result (λ needs. AreNeeds distances.now tolls.now needs.items) }
 {
-    let mut needs = 0;
-    for square in position.boxes() {
-        needs += need(distances, tolls, *square, position.player());
+    let mut needs = Vec::with_capacity(alloc, distances.count())?;
+    for start in 0..distances.count() {
+        needs.push(need_from(distances, tolls, start))?;
     }
-    needs
+    Ok(needs)
+}
+
+// What a lone box needs whose first distance has this index, or less.
+fn need_from(distances: &Distances, tolls: &[u32], start: usize) -> u32
+    ensures { result ≤ need_from distances.now tolls.now start }
+{
+    let goals = distances.goals();
+    // the rows begin at the multiples of their length
+    if start % goals.max(1) != 0 {
+        return 0;
+    }
+    least_sum(distances.row_at(start), tolls, goals) as u32
+}
+
+/// What all boxes of a position need, by the needs of each.
+pub(crate) fn total_need(distances: &Distances, needs: &[u32], position: &Position) -> u64
+    ensures { result ≡ total_need (need_in distances.now needs.now) position.now }
+{
+    let mut total = 0;
+    for square in position.boxes() {
+        let start = distances.row_start(*square, position.player());
+        total += u64::from(number_at(needs, start));
+    }
+    total
 }
 
 /// Whether a lone box can come to some goal, with the player on the second square.

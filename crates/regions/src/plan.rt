@@ -10,30 +10,34 @@ use grid::{Dir, Level, Position, Square};
 use std::alloc::{AllocError, Global};
 use std::marker::Model;
 
-/// Regions that were chosen for a level, each with the task to make its table, and a toll for each goal.
+/// Regions that were chosen for a level, each with the job to make its table, and a toll for each goal.
 #[derive(Debug, Drop)]
 pub struct Plan {
     pub(crate) tolls: Vec<u32>,
-    pub(crate) tasks: Vec<Task>,
+    pub(crate) jobs: Vec<Job>,
+    /// What a lone box needs under the tolls, by the index of its first distance. Empty until the plan is taken.
+    pub(crate) needs: Vec<u32>,
+    /// The sum of the tolls. 0 until the plan is taken.
+    pub(crate) price: u64,
 }
 
 /// A region of a level: its squares, and the waste that it counts of each push, four for each square in the order of
 /// directions. The table, once it is made, has passed the check. Contracts see the level, the waste and the table.
 #[derive(Debug, Drop)]
-pub struct Task {
+pub struct Job {
     pub(crate) level: Level,
     pub(crate) squares: Vec<Square>,
     pub(crate) wastes: Vec<u8>,
     pub(crate) table: Option<RegionTable>,
 }
 
-impl Model for Task {
+impl Model for Job {
     ghost use Rattle.std.specs.Prelude.{◌≡◌};
     ghost use Rattle.regions.specs.Regions.{IsRegion};
     ghost use Rattle.regions.specs.inside.Tables.{said, waste_in};
-    ghost use Rattle.regions.specs.inside.Views.{TaskView};
+    ghost use Rattle.regions.specs.inside.Views.{JobView};
 
-    ghost Value = { TaskView };
+    ghost Value = { JobView };
 
     ghost view = { λ a. record { board = a.level; wastes = a.wastes.items; table = a.table } };
 
@@ -41,13 +45,13 @@ impl Model for Task {
 }
 
 impl Plan {
-    /// The tasks, one for each region. They are independent of each other: run them in any order, in any threads.
-    pub fn tasks(&mut self) -> &mut [Task] {
-        self.tasks.as_mut_slice()
+    /// The jobs, one for each region. They are independent of each other: run them in any order, in any threads.
+    pub fn jobs(&mut self) -> &mut [Job] {
+        self.jobs.as_mut_slice()
     }
 }
 
-impl Task {
+impl Job {
     /// Makes the table of the region and checks it. A table that does not pass is left out. Takes up to some seconds.
     /// Fails only if out of memory, and then there is no table.
     pub fn run(&mut self, alloc: Global) -> Result<(), AllocError> {
@@ -68,7 +72,7 @@ impl Task {
         let _ = &self.table;
     }
 
-    /// Whether the task is of this level.
+    /// Whether the job is of this level.
     pub(crate) fn is_of(&self, level: &Level) -> bool
         ensures { IsTrue result → self.now.board ≡ level.now }
     {
@@ -121,20 +125,25 @@ pub(crate) fn plan_of(alloc: Global, level: &Level, choice: Choice) -> Result<Pl
         owners,
         mut regions,
     } = choice;
-    let mut tasks = Vec::new(alloc);
+    let mut jobs = Vec::new(alloc);
     for _ in 0..regions.len() {
         let Some(squares) = regions.pop() else {
             break;
         };
         let counted = wastes_of(alloc, wastes.as_slice(), owners.as_slice(), regions.len())?;
-        tasks.push(Task {
+        jobs.push(Job {
             level: level.copy()?,
             squares,
             wastes: counted,
             table: None,
         })?;
     }
-    Ok(Plan { tolls, tasks })
+    Ok(Plan {
+        tolls,
+        jobs,
+        needs: Vec::new(alloc),
+        price: 0,
+    })
 }
 
 // The waste that the region with this index counts of each push: none of a push from a square that it does not own.

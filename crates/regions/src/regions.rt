@@ -1,4 +1,4 @@
-ghost use Rattle.std.specs.Prelude.{◌≡◌, ◌≤◌, ◌<◌, ℕ, IfOk, IsTrue};
+ghost use Rattle.std.specs.Prelude.{◌≡◌, ◌≤◌, ◌<◌, ℕ, IfNone, IfOk, IfSome, IsTrue};
 ghost use Rattle.grid.specs.Lawful.{box_count};
 ghost use Rattle.grid.specs.States.{FitsLevel};
 ghost use Rattle.doom.specs.Lost.{IsLost};
@@ -6,10 +6,11 @@ ghost use Rattle.prices.specs.Solving.{NoneWithin};
 ghost use Rattle.regions.specs.inside.Sound.{AreSound, IsTaken};
 
 use crate::choosing::{choose, choose_for};
+use crate::needs::{needs_of, price};
 use crate::plan::{Plan, plan_of};
-use crate::sums::{are_sound, is_dead_by, lower_by};
+use crate::sums::{are_sound, lower_by};
 use grid::{Level, MAX_BOXES, Position};
-use prices::{Distances, Matching};
+use prices::{Distances, Matching, NEVER};
 use std::alloc::{AllocError, Global};
 use std::marker::Model;
 
@@ -81,101 +82,99 @@ impl Regions {
     }
 
     /// Takes the tables of a plan that passed their check, in place of those before. A plan of another level, or one
-    /// whose regions count more for a push than it wastes, changes nothing.
-    pub fn take(&mut self, level: &Level, plan: Plan)
+    /// whose regions count more for a push than it wastes, changes nothing. Fails only if out of memory, and then
+    /// changes nothing.
+    pub fn take(&mut self, alloc: Global, level: &Level, plan: Plan) -> Result<(), AllocError>
         requires { level.now ≡ self.old }
         ensures { self.new ≡ self.old }
     {
-        if !is_sound(level, &self.distances, &plan) {
-            return;
+        if let Some(plan) = taken(alloc, level, &self.distances, plan)? {
+            self.plan = Some(plan);
         }
-        self.plan = Some(plan);
+        Ok(())
     }
 
     /// Takes the tables of a plan that passed their check, beside those of [`Regions::take`] and of the last plan that
     /// this took. A plan of another level, or one whose regions count more for a push than it wastes, changes nothing.
-    pub fn take_later(&mut self, level: &Level, plan: Plan)
+    /// Fails only if out of memory, and then changes nothing.
+    pub fn take_later(&mut self, alloc: Global, level: &Level, plan: Plan) -> Result<(), AllocError>
         requires { level.now ≡ self.old }
         ensures { self.new ≡ self.old }
     {
-        if !is_sound(level, &self.distances, &plan) {
-            return;
+        if let Some(plan) = taken(alloc, level, &self.distances, plan)? {
+            self.earlier = self.latest.take();
+            self.latest = Some(plan);
         }
-        self.earlier = self.latest.take();
-        self.latest = Some(plan);
+        Ok(())
     }
 
     /// A lower bound on the pushes that the boxes need: no play from the position with fewer ends solved. It is the
-    /// greatest of the matching's and of what each set of regions says; `u64::MAX` if [`Regions::is_dead`] is true.
-    /// Takes no memory. The matching may be that of any position; one of a position that differs by a push or two is
-    /// fastest.
-    pub fn lower(&self, position: &Position, matching: &mut Matching) -> u64
+    /// greatest of the matching's and of what each set of regions says. `None` only if no play from the position ends
+    /// solved. Takes no memory. The matching may be that of any position; one of a position that differs by a push or
+    /// two is fastest.
+    pub fn lower(&self, position: &Position, matching: &mut Matching) -> Option<u64>
         requires { FitsLevel self.now position.now }
-        ensures { (m : ℕ) → m < result → NoneWithin self.now m position.now }
+        ensures bound { IfSome result (λ low. (m : ℕ) → m < low → NoneWithin self.now m position.now) }
+        ensures lost { IfNone result (IsLost self.now position.now) }
     {
         let low = self.distances.lower(position, matching);
-        let first = lower_of(&self.distances, &self.plan, position);
-        let second = lower_of(&self.distances, &self.earlier, position);
-        let third = lower_of(&self.distances, &self.latest, position);
-        low.max(first).max(second.max(third))
+        if low >= u64::from(NEVER) && self.distances.is_lost(position, matching) {
+            return None;
+        }
+        let first = lower_of(&self.distances, &self.plan, position)?;
+        let second = lower_of(&self.distances, &self.earlier, position)?;
+        let third = lower_of(&self.distances, &self.latest, position)?;
+        Some(low.max(first).max(second.max(third)))
     }
+}
 
-    /// Whether a table says that its boxes can never all come to goals: then no play from the position ends solved.
-    /// `false` says nothing. Takes no memory.
-    pub fn is_dead(&self, position: &Position) -> bool
-        requires { FitsLevel self.now position.now }
-        ensures { IsTrue result → IsLost self.now position.now }
-    {
-        let first = is_dead_of(&self.distances, &self.plan, position);
-        let second = is_dead_of(&self.distances, &self.earlier, position);
-        let third = is_dead_of(&self.distances, &self.latest, position);
-        first | second | third
+// The plan with what boxes need under its tolls, if it is of the level, and its regions count no more for a push than
+// it wastes.
+fn taken(
+    alloc: Global,
+    level: &Level,
+    distances: &Distances,
+    plan: Plan,
+) -> Result<Option<Plan>, AllocError>
+    requires { level.now ≡ distances.now.level }
+    ensures { IfOk result (λ plan. IsTaken distances.now plan) }
+{
+    if distances.goals() > MAX_BOXES || !is_sound(level, distances, &plan) {
+        return Ok(None);
     }
+    let Plan { tolls, jobs, .. } = plan;
+    let needs = needs_of(alloc, distances, tolls.as_slice())?;
+    let price = price(distances, tolls.as_slice());
+    Ok(Some(Plan {
+        tolls,
+        jobs,
+        needs,
+        price,
+    }))
 }
 
 // Whether the plan is of the level, and its regions count no more for a push than it wastes.
 fn is_sound(level: &Level, distances: &Distances, plan: &Plan) -> bool
     requires { level.now ≡ distances.now.level }
-    ensures { IsTrue result → AreSound distances.now plan.now.tolls.items plan.now.tasks.items }
+    ensures { IsTrue result → AreSound distances.now plan.now.tolls.items plan.now.jobs.items }
 {
     are_sound(
         level,
         distances,
         plan.tolls.as_slice(),
-        plan.tasks.as_slice(),
+        plan.jobs.as_slice(),
     )
 }
 
-// The bound of regions: 0 without any, and `u64::MAX` if one of them is endless.
-fn lower_of(distances: &Distances, plan: &Option<Plan>, position: &Position) -> u64
+// The bound of regions, 0 without any. `None` only if no play from the position ends solved.
+fn lower_of(distances: &Distances, plan: &Option<Plan>, position: &Position) -> Option<u64>
     requires taken { IsTaken distances.now plan.now }
     requires fits { FitsLevel distances.now.level position.now }
-    ensures { (m : ℕ) → m < result → NoneWithin distances.now.level m position.now }
-{
-    let Some(plan) = plan else {
-        return 0;
-    };
-    let tolls = plan.tolls.as_slice();
-    let tasks = plan.tasks.as_slice();
-    if is_dead_by(distances, tolls, tasks, position) {
-        return u64::MAX;
-    }
-    lower_by(distances, tolls, tasks, position)
-}
-
-// Whether one of the regions says that the position is lost.
-fn is_dead_of(distances: &Distances, plan: &Option<Plan>, position: &Position) -> bool
-    requires taken { IsTaken distances.now plan.now }
-    requires fits { FitsLevel distances.now.level position.now }
-    ensures { IsTrue result → IsLost distances.now.level position.now }
+    ensures bound { IfSome result (λ low. (m : ℕ) → m < low → NoneWithin distances.now.level m position.now) }
+    ensures lost { IfNone result (IsLost distances.now.level position.now) }
 {
     match plan {
-        Some(plan) => is_dead_by(
-            distances,
-            plan.tolls.as_slice(),
-            plan.tasks.as_slice(),
-            position,
-        ),
-        None => false,
+        Some(plan) => lower_by(distances, plan, position),
+        None => Some(0),
     }
 }

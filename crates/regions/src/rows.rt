@@ -4,11 +4,14 @@
 use crate::table::number_at;
 use std::alloc::{AllocError, Global};
 
-/// The greatest number of squares of a region.
+/// The greatest number of squares of a room behind one square.
 pub(crate) const MOST_SQUARES: usize = 60;
 
 /// The greatest number of seats: squares of a region on which a box is seen.
 pub(crate) const MOST_SEATS: usize = 32;
+
+/// The greatest number of places of a region: one for each bit of a word.
+pub(crate) const MOST_PLACES: usize = 64;
 
 /// The greatest number of entries, a byte each, of the tables of one choice of regions.
 pub(crate) const MOST_ENTRIES: usize = 64_000_000;
@@ -36,16 +39,16 @@ pub(crate) fn sets_within(seats: usize, boxes: usize) -> u64 {
     sets
 }
 
-/// The number of entries of a table with this many seats and squares, for at most `boxes` boxes.
-pub(crate) fn entries_of(seats: usize, squares: usize, boxes: usize) -> u64 {
-    sets_within(seats, boxes).saturating_mul(squares.saturating_add(1) as u64)
+/// The number of entries of a table with this many seats and places, for at most `boxes` boxes.
+pub(crate) fn entries_of(seats: usize, places: usize, boxes: usize) -> u64 {
+    sets_within(seats, boxes).saturating_mul(places as u64)
 }
 
-/// Whether a table has at most this many entries, and the region not too many squares.
-pub(crate) fn is_small(seats: usize, squares: usize, boxes: usize, entries: usize) -> bool {
+/// Whether a table has at most this many entries, and not too many seats and places.
+pub(crate) fn is_small(seats: usize, places: usize, boxes: usize, entries: usize) -> bool {
     seats <= MOST_SEATS
-        && squares <= MOST_SQUARES
-        && entries_of(seats, squares, boxes) <= entries as u64
+        && places <= MOST_PLACES
+        && entries_of(seats, places, boxes) <= entries as u64
 }
 
 /// The rows of the sets of at most `boxes` of the seats, each of `row` entries.

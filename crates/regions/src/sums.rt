@@ -1,39 +1,38 @@
 //! What all regions of a plan say, and what they count.
-ghost use Rattle.std.specs.Prelude.{◌≡◌, ◌≤◌, ◌<◌, ◌*◌, ℕ, IfSome, IsTrue, length};
+ghost use Rattle.std.specs.Prelude.{◌≡◌, ◌≤◌, ◌<◌, ℕ, IfNone, IfSome, IsTrue, Some, length};
 ghost use Rattle.grid.specs.Board.{next};
 ghost use Rattle.grid.specs.States.{FitsLevel};
 ghost use Rattle.doom.specs.Lost.{IsLost};
 ghost use Rattle.grid.specs.declared.dir.Dir.{Dir};
-ghost use Rattle.prices.specs.Prices.{goals_of};
 ghost use Rattle.prices.specs.Solving.{NoneWithin};
 ghost use Rattle.prices.specs.inside.Tables.{far_in};
-ghost use Rattle.regions.specs.Regions.{AreFinite, ArePaid, AreRegions, excess_of, waste_of};
+ghost use Rattle.regions.specs.Regions.{AreFinite, ArePaid, AreRegions, HasEndless, excess_of, waste_of};
 ghost use Rattle.regions.specs.inside.Checks.{IsPaid};
 ghost use Rattle.regions.specs.inside.Needs.{need_under};
-ghost use Rattle.regions.specs.inside.Sound.{AreSound};
+ghost use Rattle.regions.specs.inside.Sound.{AreSound, IsTaken};
 ghost use Rattle.regions.specs.inside.Views.{parts_of};
 
-use crate::needs::{can_come, need, price, total_need};
-use crate::plan::Task;
+use crate::needs::{can_come, need, total_need};
+use crate::plan::{Job, Plan};
 use crate::table::ENDLESS;
-use grid::{Dir, Level, MAX_BOXES, Position, Square};
+use grid::{Dir, Level, Position, Square};
 use prices::Distances;
 
-/// Whether the tasks are of this level, and count no more for each push than it wastes under the tolls.
-pub(crate) fn are_sound(level: &Level, distances: &Distances, tolls: &[u32], tasks: &[Task]) -> bool
+/// Whether the jobs are of this level, and count no more for each push than it wastes under the tolls.
+pub(crate) fn are_sound(level: &Level, distances: &Distances, tolls: &[u32], jobs: &[Job]) -> bool
     requires { level.now ≡ distances.now.level }
-    ensures { IsTrue result → AreSound distances.now tolls.now tasks.now }
+    ensures { IsTrue result → AreSound distances.now tolls.now jobs.now }
 {
-    let same = are_of(tasks, level);
-    let paid = are_paid(level, distances, tolls, tasks);
+    let same = are_of(jobs, level);
+    let paid = are_paid(level, distances, tolls, jobs);
     same & paid
 }
 
-// Whether all tasks are of this level.
-fn are_of(tasks: &[Task], level: &Level) -> bool
-    ensures { IsTrue result → AreRegions level.now (parts_of tasks.now) }
+// Whether all jobs are of this level.
+fn are_of(jobs: &[Job], level: &Level) -> bool
+    ensures { IsTrue result → AreRegions level.now (parts_of jobs.now) }
 {
-    let [first, rest @ ..] = tasks else {
+    let [first, rest @ ..] = jobs else {
         return true;
     };
     first.tell();
@@ -44,14 +43,14 @@ fn are_of(tasks: &[Task], level: &Level) -> bool
 }
 
 // Whether each push wastes what all regions count for it.
-fn are_paid(level: &Level, distances: &Distances, tolls: &[u32], tasks: &[Task]) -> bool
+fn are_paid(level: &Level, distances: &Distances, tolls: &[u32], jobs: &[Job]) -> bool
     requires { level.now ≡ distances.now.level }
     ensures { IsTrue result →
-        ArePaid level.now (far_in distances.now.table) (need_under distances.now tolls.now) (parts_of tasks.now) }
+        ArePaid level.now (far_in distances.now.table) (need_under distances.now tolls.now) (parts_of jobs.now) }
 {
     level.tell();
     for index in 0..level.squares() {
-        if !are_paid_from(level, distances, tolls, tasks, Square(index as u16)) {
+        if !are_paid_from(level, distances, tolls, jobs, Square(index as u16)) {
             return false;
         }
     }
@@ -63,19 +62,19 @@ fn are_paid_from(
     level: &Level,
     distances: &Distances,
     tolls: &[u32],
-    tasks: &[Task],
+    jobs: &[Job],
     player: Square,
 ) -> bool
     requires level { level.now ≡ distances.now.level }
     requires inside { player < length level.now.cells }
     ensures { IsTrue result → (d : Dir) →
-        IsPaid level.now (far_in distances.now.table) (need_under distances.now tolls.now) (parts_of tasks.now)
+        IsPaid level.now (far_in distances.now.table) (need_under distances.now tolls.now) (parts_of jobs.now)
         player d }
 {
-    let down = is_paid(level, distances, tolls, tasks, player, Dir::D);
-    let left = is_paid(level, distances, tolls, tasks, player, Dir::L);
-    let right = is_paid(level, distances, tolls, tasks, player, Dir::R);
-    let up = is_paid(level, distances, tolls, tasks, player, Dir::U);
+    let down = is_paid(level, distances, tolls, jobs, player, Dir::D);
+    let left = is_paid(level, distances, tolls, jobs, player, Dir::L);
+    let right = is_paid(level, distances, tolls, jobs, player, Dir::R);
+    let up = is_paid(level, distances, tolls, jobs, player, Dir::U);
     down & left & right & up
 }
 
@@ -84,14 +83,14 @@ fn is_paid(
     level: &Level,
     distances: &Distances,
     tolls: &[u32],
-    tasks: &[Task],
+    jobs: &[Job],
     player: Square,
     dir: Dir,
 ) -> bool
     requires level { level.now ≡ distances.now.level }
     requires inside { player < length level.now.cells }
     ensures { IsTrue result →
-        IsPaid level.now (far_in distances.now.table) (need_under distances.now tolls.now) (parts_of tasks.now)
+        IsPaid level.now (far_in distances.now.table) (need_under distances.now tolls.now) (parts_of jobs.now)
         player dir }
 {
     let square = level.next(player, dir);
@@ -106,7 +105,7 @@ fn is_paid(
     if !can_come(distances, to, square) {
         return true;
     }
-    let Some(waste) = waste_of(tasks, square, dir) else {
+    let Some(waste) = waste_of(jobs, square, dir) else {
         return false;
     };
     let before = need(distances, tolls, square, player);
@@ -115,11 +114,11 @@ fn is_paid(
 }
 
 // What all regions count of a push; `None` if that is endless for one of them, or very much.
-fn waste_of(tasks: &[Task], square: Square, dir: Dir) -> Option<u64>
-    ensures { IfSome result (λ sum. AreFinite (parts_of tasks.now) square dir ×
-        (sum ≡ waste_of (parts_of tasks.now) square dir) × (sum ≤ 4294967295)) }
+fn waste_of(jobs: &[Job], square: Square, dir: Dir) -> Option<u64>
+    ensures { IfSome result (λ sum. AreFinite (parts_of jobs.now) square dir ×
+        (sum ≡ waste_of (parts_of jobs.now) square dir) × (sum ≤ 4294967295)) }
 {
-    let [first, rest @ ..] = tasks else {
+    let [first, rest @ ..] = jobs else {
         return Some(0);
     };
     let waste = first.waste(square, dir);
@@ -136,54 +135,32 @@ fn waste_of(tasks: &[Task], square: Square, dir: Dir) -> Option<u64>
     Some(sum)
 }
 
-/// A lower bound on the pushes that the boxes need: their needs and what all regions say, above the tolls.
-pub(crate) fn lower_by(
-    distances: &Distances,
-    tolls: &[u32],
-    tasks: &[Task],
-    position: &Position,
-) -> u64
-    requires sound { AreSound distances.now tolls.now tasks.now }
+/// A lower bound on the pushes that the boxes need: their needs and what all regions say, above the tolls. `None` if a
+/// region says that its boxes can never all come to goals.
+pub(crate) fn lower_by(distances: &Distances, plan: &Plan, position: &Position) -> Option<u64>
+    requires taken { IsTaken distances.now (Some plan.now) }
     requires fits { FitsLevel distances.now.level position.now }
-    ensures { (m : ℕ) → m < result → NoneWithin distances.now.level m position.now }
+    ensures bound { IfSome result (λ low. (m : ℕ) → m < low → NoneWithin distances.now.level m position.now) }
+    ensures lost { IfNone result (IsLost distances.now.level position.now) }
 {
-    if distances.goals() > MAX_BOXES {
-        return 0;
-    }
     distances.tell();
-    let needs = total_need(distances, tolls, position);
-    needs
-        .saturating_add(excess_of(tasks, position))
-        .saturating_sub(price(distances, tolls))
+    let excess = excess_of(plan.jobs.as_slice(), position)?;
+    let needs = total_need(distances, plan.needs.as_slice(), position);
+    Some(needs.saturating_add(excess).saturating_sub(plan.price))
 }
 
-// What all regions say of a position, or less.
-fn excess_of(tasks: &[Task], position: &Position) -> u64
-    ensures { result ≤ excess_of (parts_of tasks.now) position.now }
+// What all regions say of a position, or less; `None` if that is endless for one of them.
+fn excess_of(jobs: &[Job], position: &Position) -> Option<u64>
+    ensures sum { IfSome result (λ sum. sum ≤ excess_of (parts_of jobs.now) position.now) }
+    ensures endless { IfNone result (HasEndless (parts_of jobs.now) position.now) }
 {
-    let [first, rest @ ..] = tasks else {
-        return 0;
+    let [first, rest @ ..] = jobs else {
+        return Some(0);
     };
-    excess_of(rest, position).saturating_add(u64::from(first.says(position)))
-}
-
-/// Whether a region says that its boxes can never all come to goals.
-pub(crate) fn is_dead_by(
-    distances: &Distances,
-    tolls: &[u32],
-    tasks: &[Task],
-    position: &Position,
-) -> bool
-    requires sound { AreSound distances.now tolls.now tasks.now }
-    requires fits { FitsLevel distances.now.level position.now }
-    ensures { IsTrue result → IsLost distances.now.level position.now }
-{
-    let [first, rest @ ..] = tasks else {
-        return false;
-    };
-    distances.tell();
-    if first.says(position) == ENDLESS {
-        return true;
+    let excess = first.says(position);
+    if excess == ENDLESS {
+        return None;
     }
-    is_dead_by(distances, tolls, rest, position)
+    let others = excess_of(rest, position)?;
+    Some(others.saturating_add(u64::from(excess)))
 }

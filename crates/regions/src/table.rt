@@ -24,9 +24,10 @@ pub(crate) struct Key {
 /// that many pushes or more.
 #[derive(Debug, Drop)]
 pub(crate) struct RegionTable {
-    /// The place of each square of the level: 0 outside the region.
+    /// The place of each square of the level. A square where a box is seen has a place of its own. The others share it
+    /// with those that the player reaches from there without crossing such a square.
     pub(crate) places: Vec<u8>,
-    /// The squares of the region, by place less one.
+    /// The squares with a place other than 0.
     pub(crate) squares: Vec<Square>,
     /// The key of each square of the level: both numbers are 0 where a box isn't seen.
     pub(crate) keys: Vec<Key>,

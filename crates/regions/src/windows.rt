@@ -9,6 +9,10 @@ use std::alloc::{AllocError, Global};
 /// The least number of seats of a room behind one square.
 const FEWEST_SEATS: usize = 3;
 
+/// How many places a table is estimated to have for the squares that are not seats. Some tables have more of them, and
+/// become a little larger.
+const COMPONENTS: usize = 3;
+
 /// A search for sets of squares whose tables are small enough.
 #[derive(Drop)]
 pub(crate) struct Finder {
@@ -170,7 +174,7 @@ impl Finder {
             has_goal |= level.is_goal(*square);
         }
         let seats = self.seats(self.queue.as_slice());
-        has_goal && seats >= FEWEST_SEATS && self.is_small(seats, self.queue.len())
+        has_goal && seats >= FEWEST_SEATS && self.is_small(seats)
     }
 
     // The number of squares from which a box can come to a goal.
@@ -184,12 +188,14 @@ impl Finder {
 
     /// The number of entries of the table of a region.
     pub(crate) fn entries(&self, squares: &[Square]) -> u64 {
-        entries_of(self.seats(squares), squares.len(), self.boxes)
+        let seats = self.seats(squares);
+        entries_of(seats, seats.saturating_add(COMPONENTS), self.boxes)
     }
 
-    // Whether a table is small enough.
-    fn is_small(&self, seats: usize, squares: usize) -> bool {
-        is_small(seats, squares, self.boxes, self.entries)
+    // Whether a table with this many seats is small enough.
+    fn is_small(&self, seats: usize) -> bool {
+        let places = seats.saturating_add(COMPONENTS);
+        is_small(seats, places, self.boxes, self.entries)
     }
 
     // The number of the squares that the last search came to.
@@ -219,12 +225,10 @@ impl Finder {
                 return Ok(window);
             };
             let more = seats.saturating_add(usize::from(self.is_live(square)));
-            if self.is_small(more, window.len().saturating_add(1)) {
+            if self.is_small(more) {
                 seats = more;
                 window.push(square)?;
                 self.visit_around(level, square)?;
-            } else if !self.is_live(square) {
-                return Ok(window);
             }
         }
         Ok(window)

@@ -4,7 +4,6 @@ use Rattle.std.proofs.Common.{refl, sym, ap, subst, ◌∙◌, arith}
 use Rattle.std.proofs.lemmas.Bool.{cases_lt}
 use Rattle.std.proofs.lemmas.List.{length-append}
 use Rattle.std.proofs.lemmas.Option.{slice_get_within}
-use Rattle.std.specs.List.{count_by}
 use Rattle.std.specs.Prelude.{slice_get}
 use Rattle.grid.specs.declared.moves.Letter.{Letter}
 use Rattle.grid.specs.declared.square.Push.{Push}
@@ -18,7 +17,7 @@ use Rattle.area.specs.Area.{at}
 use Rattle.area.specs.Pushes.{CanPush}
 use Rattle.lurd.specs.Verdict.{IsVerdict}
 use Rattle.lurd.specs.declared.verdict.Verdict.TheVariants.{Solved}
-use Rattle.lurd.proofs.lemmas.Solutions.{pushes_of_play, moves_of_play}
+use Rattle.lurd.proofs.lemmas.Solutions.{moves_of_play, solved_of_play}
 use Rattle.prices.specs.Solving.{SolvableWithin}
 use Rattle.prover.specs.Parity.{SomeHas}
 use Rattle.prover.proofs.lemmas.Pruning.{pushed_from, pushed_push}
@@ -29,7 +28,7 @@ use Rattle.shortest.specs.Shortest.{NoneIsBetter}
 use Rattle.shortest.specs.inside.Resting.{EndsSolvedBy}
 use Rattle.shortest.specs.inside.Listing.{AreAllExpanded, IsEntryAt, StatesView}
 use Rattle.shortest.specs.inside.Resting.{AreRests, Finishes, IsOnward, IsReading, IsRestOf, IsWay}
-use Rattle.shortest.specs.inside.Walking.{IsWalkLength}
+use Rattle.area.specs.WalkLengths.{IsWalkLength}
 use Rattle.shortest.specs.declared.ways.Way.{Way}
 use Rattle.shortest.proofs.Layering.{in_range}
 use Rattle.shortest.proofs.Onward.{one_at, onward_fits}
@@ -214,11 +213,7 @@ pub best_solution : (v : StatesView) (rests : List (Option ℕ)) (total : ℕ) (
     AreRests v.board v.most 0 v.entries rests → slice_get rests 0 ≡ Some (Some total) → length ps ≡ v.most → Finishes v.board (start v.board) ps total →
     WritesLeastPlay v.board ps t moves → IsVerdict v.board moves (Solved v.most (length moves)) × NoneIsBetter v.board v.most (length moves)
 best_solution v rests total ps t moves are is first_is long (ds, u, play, solved, many) writes = (
-  (
-    record { state = t; leads = record { dirs = writes.dirs; pushes = ps; play = writes.play; written = writes.written }; end = end },
-    sym long ∙ (sym (pushes_of_play writes.play) ∙ ap (λ (xs : List Letter). count_by (λ (letter : Letter). letter.push) xs) writes.written),
-    refl,
-  ),
+  subst (λ (n : ℕ). IsVerdict v.board moves (Solved n (length moves))) long (solved_of_play writes.play writes.written end),
   λ es qs (w, other, end_other). (let le = are.fewest es qs (w, other, end_other) in elim (cases_lt v.most (length qs)) [
     | inl lt ↦ inl lt
     | inr ge ↦ inr (omega (arith, le, ge), (let few : total ≤ length es = rest.is.least es qs w other end_other ge in omega (arith, few, size, short, many)))

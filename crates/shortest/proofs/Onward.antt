@@ -28,7 +28,7 @@ use Rattle.shortest.specs.Shortest.{IsReachedBy}
 use Rattle.shortest.specs.inside.Resting.{EndsSolvedBy, IsAtMost}
 use Rattle.shortest.specs.inside.Listing.{AreAllExpanded, IsEntryAt, IsListedOrLost, IsReachedState, StatesView}
 use Rattle.shortest.specs.inside.Resting.{AreLeastBy, AreRests, IsLeastBy, IsOnward, IsRestOf, IsWay, LeadsToEnd, moves_of}
-use Rattle.shortest.specs.inside.Walking.{IsWalkLength}
+use Rattle.area.specs.WalkLengths.{AreWalkLengths, IsWalkLength, walk_length}
 use Rattle.shortest.specs.declared.ways.Way.{Way}
 
 -- ---- a position is in one layer only
@@ -169,6 +169,16 @@ least_some board m s p walk rest moves scene shortest rests is ds ps t play solv
     omega (arith, one, two, long, is)
 
 -- ---- the best way
+
+-- the number that the marks give for the square behind a box is the length of a shortest walk to it
+pub walked_behind : (board held : Board) (s : Scene) (p : Push) (marks : List ℕ) (back : Dir) (behind walk : ℕ) →
+    AreWalkLengths board s marks → CanPush board s p → held ≡ board → back ≡ opposite p.dir → behind ≡ next held p.square back →
+    walk ≡ walk_length marks behind → IsWalkLength board s (next board p.square (opposite p.dir)) walk
+walked_behind board held s p marks back behind walk all can same turned is long =
+    let there : behind ≡ next board p.square (opposite p.dir) =
+    is ∙ (ap (λ (b : Board). next b p.square back) same ∙ ap (next board p.square) turned) in
+    subst (IsWalkLength board s (next board p.square (opposite p.dir))) (sym (long ∙ ap (walk_length marks) there))
+    (all (next board p.square (opposite p.dir)) can.behind)
 
 -- a bound that holds for each number holds for the lesser one
 pub least_by_less : (board : Board) (m : ℕ) (s : Scene) (p : Push) (one two : Option ℕ) → ((n : ℕ) → IsAtMost one n → IsAtMost two n) →

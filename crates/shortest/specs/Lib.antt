@@ -1,3 +1,4 @@
 pub mod Shortest
 pub mod Outcomes
+pub mod Improving
 pub mod inside

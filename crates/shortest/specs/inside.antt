@@ -1,5 +1,4 @@
 -- Definitions for the code's own state. No outcome depends on them.
 pub mod Listing
-pub mod Walking
 pub mod Resting
-pub mod Improving
+pub mod Nearby

@@ -65,8 +65,21 @@ impl<'a> Bounds<'a> {
         let level = self.level;
         let mut plan = self.regions.plan(alloc, level, *bytes)?;
         run_plan(alloc, &mut plan)?;
-        self.regions.take(level, plan);
-        Ok(())
+        self.regions.take(alloc, level, plan)
+    }
+
+    /// The level.
+    pub(crate) fn level(&self) -> &'a Level
+        ensures { result.now ≡ self.now.board }
+    {
+        self.level
+    }
+
+    /// Sets the most pushes of the solutions that are searched for.
+    pub(crate) fn set_most(&mut self, most: u32)
+        ensures { self.new ≡ record { board = self.old.board; most = most } }
+    {
+        self.most = most;
     }
 
     /// The fewest pushes of the level's solutions.
@@ -88,15 +101,17 @@ impl<'a> Bounds<'a> {
         requires { FitsLevel self.now.board state.now }
         ensures { IsFalse result → NoneWithin self.now.board left state.now }
     {
-        let low = self.regions.lower(state, matching);
-        low <= u64::from(left)
+        match self.regions.lower(state, matching) {
+            Some(low) => low <= u64::from(left),
+            None => false,
+        }
     }
 }
 
 // Makes the tables of a plan. Fails only if out of memory.
 fn run_plan(alloc: Global, plan: &mut Plan) -> Result<(), AllocError> {
-    for task in plan.tasks() {
-        task.run(alloc)?;
+    for job in plan.jobs() {
+        job.run(alloc)?;
     }
     Ok(())
 }

@@ -1,165 +1,269 @@
-//! Replaces pieces of a solution by pieces with fewer moves.
-//!
-//! A window is some pushes of the solution, one after the other. Its level has the boxes and the player of the state
-//! before them, and goals where they leave the boxes. If a solution of that level has fewer moves, it takes the place
-//! of the window. Windows are guesses: each new solution is replayed before it takes the place of the old one, and no
-//! contract says how many moves it saves.
-ghost use Rattle.std.specs.Prelude.{◌≡◌, ◌≤◌, IfOk, length};
-ghost use Rattle.lurd.specs.Verdict.{IsVerdict};
-ghost use Rattle.lurd.specs.declared.verdict.Verdict.TheVariants.{Solved};
-ghost use Rattle.shortest.specs.inside.Improving.{Improves};
+//! Replaces a solution by better ones that a search near it finds.
+ghost use Rattle.std.specs.Prelude.{◌≡◌, ◌<◌, ◌≤◌, ◌⊎◌, IsTrue};
+ghost use Rattle.shortest.specs.Improving.{IsNoWorse};
+ghost use Rattle.shortest.specs.inside.Nearby.{IsFinderFor};
 
-use crate::windows::{MAX_STATES, Window, replaced};
-use grid::{Level, Moves};
+use crate::bounds::Bounds;
+use crate::listing::problem_of;
+use crate::near::{Find, Form, Memory, search_near};
+use crate::trail::Trail;
+use area::{Scratch, walk};
+use grid::{Letter, Level, Moves, Position, Push, State};
+use lurd::laws::one_verdict;
 use lurd::{Verdict, replay};
 use std::alloc::{AllocError, Global};
-use std::thread::Threads;
 
-/// The most passes over a solution. A pass that saves no move is the last.
-const MAX_PASSES: u32 = 6;
+/// The most states of a layer that the first search expands. A search without success is repeated with `WIDER` times
+/// as many.
+const FIRST_WIDTH: usize = 30;
 
-/// The numbers of pushes of the windows that begin with the same push: half as many more each time.
-const SIZES: [usize; 10] = [6, 9, 13, 19, 28, 42, 63, 94, 141, 211];
+const WIDER: usize = 3;
 
-/// The most work of all windows together, in listed states.
-const MAX_WORK: usize = 20_000;
+/// The most searches for one aim.
+const MAX_SEARCHES: usize = 1_000;
 
-/// The work of a window, beside what its size and its search take.
-const WINDOW_WORK: usize = 100;
+/// On a grid with this many squares a state takes twice as long as on a small one.
+const SQUARES_A_STATE: usize = 1_000;
 
-/// How many distances from squares to goals are as much work as a listed state.
-const DISTANCES_A_STATE: usize = 200;
-
-/// A solution with as many pushes as `moves` and at most as many moves. `moves` solve the level with `pushes` pushes.
-///
-/// It searches short pieces of the solution, in about the time that a search for some 20,000 states takes at most.
-/// Fails only if out of memory.
-pub fn improve<R: Threads + Sync>(
-    rt: &R,
-    alloc: Global,
-    level: &Level,
-    moves: Moves,
-    pushes: usize,
-) -> Result<Moves, AllocError>
-    requires { IsVerdict level.now moves (Solved pushes (length moves)) }
-    ensures { IfOk result (λ better. IsVerdict level.now better (Solved pushes (length better)) ×
-        (length better ≤ length moves)) }
-{
-    let mut best = moves;
-    let mut work = MAX_WORK;
-    for _ in 0..MAX_PASSES {
-        let before = best.len();
-        if before == pushes {
-            break;
-        }
-        go_over(rt, alloc, level, pushes, &mut best, &mut work)?;
-        if best.len() == before {
-            break;
-        }
-    }
-    Ok(best)
+/// What [`improve`] looks for.
+#[derive(Clone, Copy, PartialEq, Eq, Debug)]
+pub enum Aim {
+    /// Fewer pushes, and then fewer moves with as many pushes.
+    FewerPushes,
+    /// Fewer moves with as many pushes.
+    FewerMoves,
 }
 
-// Tries windows from the first push to the last, until the work is done.
-fn go_over<R: Threads + Sync>(
-    rt: &R,
+/// Replaces a solution of the level by a better one, if it finds one: with fewer pushes, or with as many pushes and fewer
+/// moves. It searches states that differ from those of the solution in one or two boxes, and lists at most `states` of
+/// them in all, fewer on a large grid. Moves that do not solve the level stay as they are.
+///
+/// Fails only if out of memory. Then the moves are the best solution that it found.
+#[tactic(auto, using(crate::proofs::Better::no_worse_same, crate::proofs::Better::no_worse_then))]
+pub fn improve(
     alloc: Global,
     level: &Level,
-    pushes: usize,
-    best: &mut Moves,
-    work: &mut usize,
+    moves: &mut Moves,
+    aim: Aim,
+    states: usize,
 ) -> Result<(), AllocError>
-    ensures { Improves level.now pushes best.old best.new }
+    ensures { IsNoWorse level.now moves.old moves.new }
 {
-    let mut first = 0;
-    while first < pushes {
-        if *work == 0 {
+    let Some(start) = Position::start(level) else {
+        return Ok(());
+    };
+    level.tell_start();
+    let problem = problem_of(alloc, level)?;
+    let mut finder = Finder {
+        start,
+        bounds: Bounds::of(alloc, level, 0)?,
+        memory: Memory::new(alloc, &problem)?,
+    };
+    let states = states / (1 + level.squares() / SQUARES_A_STATE);
+    if aim == Aim::FewerMoves {
+        return improve_by(alloc, level, moves, aim, states, &mut finder);
+    }
+    improve_by(alloc, level, moves, aim, states / 2, &mut finder)?;
+    improve_by(
+        alloc,
+        level,
+        moves,
+        Aim::FewerMoves,
+        states / 2,
+        &mut finder,
+    )
+}
+
+/// What searches near solutions of a level share: its start, its bounds and memory.
+#[derive(Drop)]
+pub(crate) struct Finder<'a> {
+    start: Position,
+    bounds: Bounds<'a>,
+    memory: Memory<'a>,
+}
+
+// Improves a solution with one box elsewhere, and then with two.
+#[tactic(auto, using(crate::proofs::Better::no_worse_same, crate::proofs::Better::no_worse_then))]
+fn improve_by(
+    alloc: Global,
+    level: &Level,
+    moves: &mut Moves,
+    aim: Aim,
+    states: usize,
+    finder: &mut Finder<'_>,
+) -> Result<(), AllocError>
+    requires finder { IsFinderFor level.now finder.old }
+    ensures better { IsNoWorse level.now moves.old moves.new }
+    ensures finder { IsFinderFor level.now finder.new }
+{
+    let one = form_of(aim, 1, states / 3 * 2);
+    repeat(alloc, level, moves, one, finder)?;
+    let two = form_of(aim, 2, states / 3);
+    repeat(alloc, level, moves, two, finder)
+}
+
+// The form of a first search.
+fn form_of(aim: Aim, displaced: u32, states: usize) -> Form {
+    Form {
+        aim,
+        displaced,
+        width: FIRST_WIDTH,
+        states,
+    }
+}
+
+// Searches near the solution, and again near each better one, until a search without success leaves nothing out or
+// the states are used up.
+#[tactic(auto, using(crate::proofs::Better::no_worse_same, crate::proofs::Better::no_worse_then))]
+fn repeat(
+    alloc: Global,
+    level: &Level,
+    moves: &mut Moves,
+    form: Form,
+    finder: &mut Finder<'_>,
+) -> Result<(), AllocError>
+    requires finder { IsFinderFor level.now finder.old }
+    ensures better { IsNoWorse level.now moves.old moves.new }
+    ensures finder { IsFinderFor level.now finder.new }
+{
+    let mut form = form;
+    for _ in 0..MAX_SEARCHES {
+        let find = search_once(alloc, level, moves, form, finder)?;
+        let is_better = take_if_some(alloc, level, moves, &find.pushes)?;
+        if !is_better {
+            if !find.is_cut {
+                break;
+            }
+            form.width = form.width.saturating_mul(WIDER);
+        }
+        form.states = form.states.saturating_sub(find.listed);
+        if form.states == 0 {
             break;
         }
-        let size = widen(rt, alloc, level, pushes, first, best, work)?;
-        first = first.saturating_add((size / 2).max(1));
     }
     Ok(())
 }
 
-// Tries windows that begin with the same push, each with more pushes, until the search of one ends undecided. Returns
-// the number of pushes of the last that was decided.
-fn widen<R: Threads + Sync>(
-    rt: &R,
+// Searches once near a solution.
+fn search_once(
     alloc: Global,
     level: &Level,
-    pushes: usize,
-    first: usize,
-    best: &mut Moves,
-    work: &mut usize,
-) -> Result<usize, AllocError>
-    ensures { Improves level.now pushes best.old best.new }
+    moves: &Moves,
+    form: Form,
+    finder: &mut Finder<'_>,
+) -> Result<Find, AllocError>
+    requires finder { IsFinderFor level.now finder.old }
+    ensures finder { IsFinderFor level.now finder.new }
 {
-    let mut last = SIZES[0];
-    for size in SIZES {
-        let window = Window { first, size };
-        let is_decided = try_window(rt, alloc, level, pushes, window, best, work)?;
-        if !is_decided {
-            break;
-        }
-        last = size;
-        if first.saturating_add(size) >= pushes {
-            break;
-        }
+    let less = if form.aim == Aim::FewerPushes { 2 } else { 0 };
+    let most = push_count(moves).saturating_sub(less);
+    if most > form.states {
+        return Ok(Find::none());
     }
-    Ok(last)
+    finder.bounds.set_most(u32::try_from(most).unwrap_or(0));
+    let trail = Trail::of(alloc, level, &finder.start, moves)?;
+    search_near(
+        alloc,
+        &finder.bounds,
+        &finder.start,
+        &trail,
+        form,
+        &mut finder.memory,
+    )
 }
 
-// Tries a window. Returns whether its search was decided.
-fn try_window<R: Threads + Sync>(
-    rt: &R,
+// The number of letters that push.
+fn push_count(moves: &Moves) -> usize {
+    let mut count = 0;
+    for letter in moves.as_slice() {
+        if letter.push {
+            count += 1;
+        }
+    }
+    count
+}
+
+// Takes the play with these pushes in place of the moves, if it is better. Returns whether it is.
+#[tactic(auto, using(crate::proofs::Better::no_worse_same, crate::proofs::Better::no_worse_then))]
+fn take_if_some(
     alloc: Global,
     level: &Level,
-    pushes: usize,
-    window: Window,
-    best: &mut Moves,
-    work: &mut usize,
+    moves: &mut Moves,
+    pushes: &Option<Vec<Push>>,
 ) -> Result<bool, AllocError>
-    ensures { Improves level.now pushes best.old best.new }
+    ensures { IsNoWorse level.now moves.old moves.new }
 {
-    let candidate = replaced(rt, alloc, level, best, window)?;
-    *work = work.saturating_sub(work_of(level, candidate.is_none()));
-    let Some(candidate) = candidate else {
+    let Some(pushes) = pushes else {
         return Ok(false);
     };
-    take_if_better(alloc, level, pushes, best, candidate)?;
-    Ok(true)
+    let candidate = moves_by(alloc, level, pushes.as_slice())?;
+    take_if_better(alloc, level, moves, candidate)
 }
 
-// The work of a window of the level.
-fn work_of(level: &Level, is_undecided: bool) -> usize {
-    let distances = level.squares().saturating_mul(level.boxes());
-    let work = WINDOW_WORK.saturating_add(distances / DISTANCES_A_STATE);
-    if is_undecided {
-        return work.saturating_add(MAX_STATES as usize);
+// The moves of the play that makes these pushes, each after a shortest walk, if they are possible.
+fn moves_by(alloc: Global, level: &Level, pushes: &[Push]) -> Result<Moves, AllocError> {
+    let mut scratch = Scratch::new(alloc, level)?;
+    let mut state = State::start(alloc, level)?;
+    let mut moves = Moves::new(alloc);
+    for push in pushes {
+        if push.square.0 as usize >= level.squares() {
+            break;
+        }
+        let begin = moves.len();
+        let behind = level.next(push.square, push.dir.opposite());
+        let _ = walk(level, &state, behind, &mut scratch, &mut moves)?;
+        moves.push(Letter {
+            dir: push.dir,
+            push: true,
+        })?;
+        for index in begin..moves.len() {
+            state.step(level, moves.as_slice()[index].dir);
+        }
     }
-    work
+    Ok(moves)
 }
 
-// Takes a candidate in the place of the best solution, if it solves the level with as many pushes and fewer moves.
+// Takes a candidate in place of the moves, if both solve the level and the candidate has fewer pushes, or as many
+// pushes and fewer moves. Returns whether it did.
+#[tactic(auto, using(crate::proofs::Better::no_worse_same, crate::proofs::Better::no_worse_by))]
 fn take_if_better(
     alloc: Global,
     level: &Level,
-    pushes: usize,
-    best: &mut Moves,
+    moves: &mut Moves,
     candidate: Moves,
-) -> Result<(), AllocError>
-    ensures { Improves level.now pushes best.old best.new }
+) -> Result<bool, AllocError>
+    ensures { IsNoWorse level.now moves.old moves.new }
 {
-    if candidate.len() >= best.len() {
-        return Ok(());
-    }
-    let verdict = replay(alloc, level, &candidate)?;
-    let Verdict::Solved { pushes: made, .. } = verdict else {
-        return Ok(());
+    one_verdict();
+    let before = replay(alloc, level, moves)?;
+    let Verdict::Solved {
+        pushes: old_pushes,
+        moves: old_moves,
+    } = before
+    else {
+        return Ok(false);
     };
-    if made == pushes {
-        *best = candidate;
+    let after = replay(alloc, level, &candidate)?;
+    let Verdict::Solved {
+        pushes: new_pushes,
+        moves: new_moves,
+    } = after
+    else {
+        return Ok(false);
+    };
+    if !is_better(new_pushes, new_moves, old_pushes, old_moves) {
+        return Ok(false);
     }
-    Ok(())
+    *moves = candidate;
+    Ok(true)
+}
+
+// Whether there are fewer pushes than others, or as many and fewer moves.
+fn is_better(pushes: usize, moves: usize, than_pushes: usize, than_moves: usize) -> bool
+    ensures { IsTrue result → (pushes < than_pushes) ⊎ ((pushes ≡ than_pushes) × (moves ≤ than_moves)) }
+{
+    if pushes == than_pushes {
+        return moves < than_moves;
+    }
+    pushes < than_pushes
 }

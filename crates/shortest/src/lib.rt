@@ -16,15 +16,15 @@
 mod bounds;
 mod improving;
 mod listing;
+mod near;
 mod outcome;
 mod reading;
 mod rests;
 mod searching;
 mod states;
-mod walks;
+mod trail;
 mod ways;
-mod windows;
 
-pub use improving::improve;
+pub use improving::{Aim, improve};
 pub use outcome::MovesOutcome;
 pub use searching::search_moves;

@@ -21,10 +21,23 @@ use successors::{Expander, Problem};
 
 /// Memory to expand states: for their pushes, and for the matchings of a state and of one after it.
 #[derive(Drop)]
-struct Workspace<'a> {
-    expander: Expander<'a>,
-    matching: Matching,
-    next_matching: Matching,
+pub(crate) struct Workspace<'a> {
+    pub(crate) expander: Expander<'a>,
+    pub(crate) matching: Matching,
+    pub(crate) next_matching: Matching,
+}
+
+impl<'a> Workspace<'a> {
+    /// The memory for a problem. Fails only if out of memory.
+    pub(crate) fn new(alloc: Global, problem: &'a Problem) -> Result<Workspace<'a>, AllocError>
+        ensures { IfOk result (λ workspace. workspace.expander.task ≡ problem.now) }
+    {
+        Ok(Workspace {
+            expander: Expander::new(alloc, problem)?,
+            matching: Matching::new(),
+            next_matching: Matching::new(),
+        })
+    }
 }
 
 /// A list of the start alone. Fails only if out of memory.
@@ -57,8 +70,8 @@ pub(crate) fn list_states(
     list_all(alloc, &problem, &mut bounds, limit, listed)
 }
 
-// The problem of a level, with no cap: the bounds prune in its place.
-fn problem_of(alloc: Global, level: &Level) -> Result<Problem, AllocError>
+/// The problem of a level, with no cap: the bounds prune in its place. Fails only if out of memory.
+pub(crate) fn problem_of(alloc: Global, level: &Level) -> Result<Problem, AllocError>
     ensures { IfOk result (λ problem. problem ≡ capped level.now None) }
 {
     let shared = Arc::new(alloc, level.copy()?)?;
@@ -77,11 +90,7 @@ fn list_all(
     requires listing { IsStateList bounds.old.board bounds.old.most 0 listed.old }
     ensures { IfOk result (λ whole. EndsListing bounds.old.board bounds.old.most limit listed.new whole) }
 {
-    let mut workspace = Workspace {
-        expander: Expander::new(alloc, problem)?,
-        matching: Matching::new(),
-        next_matching: Matching::new(),
-    };
+    let mut workspace = Workspace::new(alloc, problem)?;
     let mut place = 0;
     while place < listed.len() {
         if listed.len() > limit as usize {
@@ -149,8 +158,8 @@ fn list_after(
     Ok(())
 }
 
-// The state after a push. `None` only if no play goes on from there and ends solved with at most `left` pushes.
-fn state_after(
+/// The state after a push. `None` only if no play goes on from there and ends solved with at most `left` pushes.
+pub(crate) fn state_after(
     bounds: &Bounds<'_>,
     from: &Reached,
     left: u32,

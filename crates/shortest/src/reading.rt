@@ -40,7 +40,7 @@ fn least_pushes(
     requires some { SomeHas states.now.board states.now.most }
     requires rests { AreRests states.now.board states.now.most 0 states.now.entries rests.now }
     requires size { tools.old.scratch.size ≡ length states.now.board.cells }
-    requires room { length tools.old.walks.lengths.items ≡ length states.now.board.cells }
+    requires room { length tools.old.walks ≡ length states.now.board.cells }
     ensures { IfOk result (λ pushes. (total : ℕ) × (slice_get rests.now 0 ≡ Some (Some total)) ×
         (length pushes.items ≡ states.now.most) ×
         Finishes states.now.board (start states.now.board) pushes.items total) }

@@ -16,10 +16,10 @@ pub(crate) fn rests_of(
     tools: &mut Tools,
 ) -> Result<Vec<Option<u64>>, AllocError>
     requires size { tools.old.scratch.size ≡ length states.now.board.cells }
-    requires room { length tools.old.walks.lengths.items ≡ length states.now.board.cells }
+    requires room { length tools.old.walks ≡ length states.now.board.cells }
     ensures rests { IfOk result (λ rests. AreRests states.now.board states.now.most 0 states.now.entries rests.items) }
     ensures size { tools.new.scratch.size ≡ length states.now.board.cells }
-    ensures room { length tools.new.walks.lengths.items ≡ length states.now.board.cells }
+    ensures room { length tools.new.walks ≡ length states.now.board.cells }
 {
     let mut rests = unknown(alloc, states.len())?;
     let mut place = states.len();
@@ -50,11 +50,11 @@ fn rest_at(
     requires place { place < length states.now.entries }
     requires rests { AreRests states.now.board states.now.most (suc place) states.now.entries rests.now }
     requires size { tools.old.scratch.size ≡ length states.now.board.cells }
-    requires room { length tools.old.walks.lengths.items ≡ length states.now.board.cells }
+    requires room { length tools.old.walks ≡ length states.now.board.cells }
     ensures rest { (k m : ℕ) (s : Scene) → IsEntryAt states.now.entries place s k → k + m ≡ states.now.most →
         IsRestOf states.now.board m s result }
     ensures size { tools.new.scratch.size ≡ length states.now.board.cells }
-    ensures room { length tools.new.walks.lengths.items ≡ length states.now.board.cells }
+    ensures room { length tools.new.walks ≡ length states.now.board.cells }
 {
     states.tell();
     let from = states.at(place);

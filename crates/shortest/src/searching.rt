@@ -1,11 +1,11 @@
-ghost use Rattle.std.specs.Prelude.{◌≡◌, ◌≤◌, ◌<◌, ◌⊎◌, IfErr, IfOk, OnOk, length};
+ghost use Rattle.std.specs.Prelude.{◌≡◌, ◌≤◌, IfErr, IfOk, OnOk, length};
 ghost use Rattle.grid.specs.Board.{start};
 ghost use Rattle.grid.specs.Lawful.{box_count};
 ghost use Rattle.lurd.specs.Verdict.{IsVerdict};
 ghost use Rattle.lurd.specs.declared.verdict.Verdict.TheVariants.{Solved};
 ghost use Rattle.prover.specs.Fewest.{NoneHasFewer};
 ghost use Rattle.prover.specs.Parity.{SomeHas};
-ghost use Rattle.prover.specs.declared.outcome.SearchFault.{SearchFault};
+ghost use Rattle.prover.specs.Outcomes.{IsFault};
 ghost use Rattle.shortest.specs.Outcomes.{IsMovesOutcome};
 ghost use Rattle.shortest.specs.Shortest.{NoneIsBetter};
 ghost use Rattle.shortest.specs.inside.Listing.{IsStateList};
@@ -36,8 +36,7 @@ pub fn search_moves(
     requires fewest { NoneHasFewer level.now pushes }
     ensures outcome { IfOk result (λ outcome. IsMovesOutcome level.now pushes limit outcome) }
     ensures few { OnOk result (box_count level.now ≤ MAX_BOXES) }
-    ensures fault { IfErr result (λ fault. (fault ≡ SearchFault.OutOfMemory) ⊎
-        ((fault ≡ SearchFault.TooManyBoxes) × (MAX_BOXES < box_count level.now))) }
+    ensures fault { IfErr result (λ fault. IsFault level.now fault) }
 {
     let Some(first) = Position::start(level) else {
         return Err(SearchFault::TooManyBoxes);

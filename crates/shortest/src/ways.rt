@@ -3,16 +3,15 @@ ghost use Rattle.std.specs.Prelude.{◌≡◌, ◌+◌, ◌⊎◌, ℕ, suc, IfN
 ghost use Rattle.grid.specs.Board.{next, opposite};
 ghost use Rattle.grid.specs.States.{FitsLevel};
 ghost use Rattle.area.specs.Pushes.{CanPush};
+ghost use Rattle.area.specs.WalkLengths.{AreWalkLengths};
 ghost use Rattle.prices.specs.Solving.{SolvableWithin};
 ghost use Rattle.successors.specs.Expansion.{after_push};
 ghost use Rattle.shortest.specs.inside.Resting.{IsAtMost};
 ghost use Rattle.shortest.specs.inside.Listing.{AreAllExpanded};
 ghost use Rattle.shortest.specs.inside.Resting.{IsLeastBy, IsOnward, IsRestOf, IsWay, LeadsToEnd, moves_of};
-ghost use Rattle.shortest.specs.inside.Walking.{HasLengths, IsWalkLength};
 
 use crate::states::{Reached, States};
-use crate::walks::Walks;
-use area::{MAX_PUSHES, Scratch, possible_pushes};
+use area::{MAX_PUSHES, Scratch, Walks, possible_pushes};
 use arrayvec::ArrayVec;
 use grid::{Level, Position, Push};
 use std::alloc::{AllocError, Global};
@@ -37,7 +36,7 @@ impl Tools {
     /// The memory for a level. Fails only if out of memory.
     pub(crate) fn new(alloc: Global, level: &Level) -> Result<Tools, AllocError>
         ensures size { IfOk result (λ tools. tools.scratch.size ≡ length level.now.cells) }
-        ensures room { IfOk result (λ tools. length tools.walks.lengths.items ≡ length level.now.cells) }
+        ensures room { IfOk result (λ tools. length tools.walks ≡ length level.now.cells) }
     {
         Ok(Tools {
             scratch: Scratch::new(alloc, level)?,
@@ -56,21 +55,21 @@ pub(crate) fn best_way(
 ) -> Option<Way>
     requires onward { IsOnward states.now rests.now from.now.pushes from.now.state }
     requires size { tools.old.scratch.size ≡ length states.now.board.cells }
-    requires room { length tools.old.walks.lengths.items ≡ length states.now.board.cells }
+    requires room { length tools.old.walks ≡ length states.now.board.cells }
     ensures way { IfSome result (λ way. IsWay states.now.board states.now.entries rests.now
         from.now.pushes from.now.state way) }
     ensures rest { (m : ℕ) → from.now.pushes + suc m ≡ states.now.most →
         IsRestOf states.now.board (suc m) from.now.state (moves_of result) }
     ensures size { tools.new.scratch.size ≡ length states.now.board.cells }
-    ensures room { length tools.new.walks.lengths.items ≡ length states.now.board.cells }
+    ensures room { length tools.new.walks ≡ length states.now.board.cells }
 {
     states.tell();
     let mut pushes: ArrayVec<Push, MAX_PUSHES> = ArrayVec::new();
     possible_pushes(states.level(), &from.state, &mut tools.scratch, &mut pushes);
-    tools.walks.forget();
+    tools.walks.measure(states.level(), &from.state);
     let mut best = None;
     for index in 0..pushes.len() {
-        let way = way_by(states, rests, from, pushes[index], &mut tools.walks);
+        let way = way_by(states, rests, from, pushes[index], &tools.walks);
         best = lesser(best, way);
     }
     best
@@ -82,12 +81,11 @@ fn way_by(
     rests: &[Option<u64>],
     from: &Reached,
     push: Push,
-    walks: &mut Walks,
+    walks: &Walks,
 ) -> Option<Way>
     requires onward { IsOnward states.now rests.now from.now.pushes from.now.state }
     requires possible { CanPush states.now.board from.now.state push }
-    requires ready { HasLengths states.now.board from.now.state walks.old }
-    ensures ready { HasLengths states.now.board from.now.state walks.new }
+    requires measured { AreWalkLengths states.now.board from.now.state walks.now }
     ensures way { IfSome result (λ way. IsWay states.now.board states.now.entries rests.now
         from.now.pushes from.now.state way) }
     ensures least { (m : ℕ) → from.now.pushes + suc m ≡ states.now.most →
@@ -100,7 +98,7 @@ fn way_by(
     };
     let level = states.level();
     let behind = level.next(square, dir.opposite());
-    let walk = walks.length_to(level, &from.state, behind);
+    let walk = walks.length_to(behind);
     Some(Way {
         push: Push { square, dir },
         place,

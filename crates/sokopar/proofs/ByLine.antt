@@ -1,31 +1,30 @@
--- A collection, as its levels are searched and written one by one.
-use Rattle.std.proofs.Common.{◌≡◌, ℕ, suc, ◌+◌, ◌<◌, ◌≤◌, Bool, cond, List, [], ◌∷◌, ◌++◌, length, Option, Some, None, Result, Ok, Err}
+-- A collection, as its levels are judged and written one by one.
+use Rattle.std.proofs.Common.{◌≡◌, ℕ, suc, ◌+◌, ◌<◌, ◌≤◌, Bool, cond, List, [], ◌∷◌, ◌++◌, length, Some, None, Result, Ok, Err}
 use Rattle.std.proofs.Common.{IfErr, inl, inr, refl, sym, ap, ◌∙◌, subst, arith, length-append}
 use Rattle.std.specs.List.{count_by}
-use Rattle.std.proofs.lemmas.List.{flat_map_more}
 use Rattle.std.proofs.lemmas.List.Recursion.{is_count_by}
 use Rattle.std.proofs.lemmas.List.Sums.{count_by-le-length}
 use Rattle.xsb.specs.declared.entry.BoardEntry.{BoardEntry}
 use Rattle.xsb.specs.declared.limits.TheConstants.{MAX_FILE}
 use Rattle.xsb.specs.declared.reader.Collection.{Collection}
 use Rattle.xsb.specs.inside.Progress.{HasRead, GivesNext, lines_left}
-use Rattle.sokopar.specs.Collection.{AreReported, none, outside, inside, BeginsCollectionReport, BeginsListing, IsBetween, IsCollectionReport, IsFinding}
-use Rattle.sokopar.specs.Collection.{Reported}
-use Rattle.sokopar.specs.Collection.{collection_report, is_optimal, is_undecided, is_unjudged, is_unsolved, reported_line, reported_lines, totals_line}
 use Rattle.sokopar.specs.Ends.{Seen}
 use Rattle.sokopar.specs.Entries.{listed_of}
+use Rattle.sokopar.specs.Levels.{AreReported, none, outside, inside, BeginsListing, BeginsReportOnLevels, IsBetween, IsReportOnLevels}
+use Rattle.sokopar.specs.Levels.{EndsWith, beyond, within, is_beaten, is_missing, is_optimal, is_out_of_memory, is_undecided, is_unjudged, is_unread}
+use Rattle.sokopar.specs.Levels.{is_unsolved, lines_of, worst_status}
 use Rattle.sokopar.specs.Listing.{Listed}
-use Rattle.sokopar.specs.Report.{Report}
-use Rattle.sokopar.specs.Runs.{ReadsWhole, RunsByLine, Stops, WritesPart, WritesWhole}
+use Rattle.sokopar.specs.Report.{no_level}
+use Rattle.sokopar.specs.Runs.{ReadsWhole, RunsByLine, Stops, WritesLines, WritesPart, WritesWhole}
+use Rattle.sokopar.specs.Runs as runs
 use Rattle.sokopar.specs.declared.fault.RunFault.{RunFault}
 use Rattle.sokopar.specs.declared.fault.RunFault.TheVariants.{Read, Write, TooLong, OutOfMemory}
-use Rattle.sokopar.specs.declared.finding.Finding.{Finding}
+use Rattle.sokopar.specs.declared.reported.Reported.{Reported}
 use Rattle.sokopar.specs.declared.totals.Totals.{Totals}
-use Rattle.sokopar.specs.inside.Sending.{SendsByLine, SendsLevel, SendsLevels, SendsLine}
-use Rattle.sokopar.specs.inside.Totals.{AreFewLevels, counted, status_of, totals_of, line_of_totals}
+use Rattle.sokopar.specs.inside.Sending.{Sends, SendsByLine, SendsLast, SendsLevel, SendsLevels, SendsLine, StopsByLine}
+use Rattle.sokopar.specs.inside.Totals.{AreFewLevels, counted, status_of, totals_of}
 use Rattle.xsb.proofs.lemmas.Cutting.{rest_of}
 use Rattle.sokopar.proofs.Listings.{HasListed, good-first, good-on, listed-all, listed-more}
-use Rattle.sokopar.proofs.Writing.{wrote_more, wrote_none}
 
 -- ---- totals
 
@@ -45,49 +44,82 @@ count-last test xs x = sym (tally-is test (xs ++ x ∷ [])) ∙ tally-last test 
     ap (λ (n : ℕ). cond (test x) (n + 1) n) (tally-is test xs)
 
 -- the totals grow by a level
-totals-last : (reported : List Reported) (n : ℕ) (finding : Finding) →
-    counted (totals_of reported) finding ≡ totals_of (reported ++ record { number = n; finding = finding } ∷ [])
-totals-last reported n finding =
-    let one : Reported = record { number = n; finding = finding } in
+totals-last : (reported : List Reported) (one : Reported) → counted (totals_of reported) one.kind ≡ totals_of (reported ++ one ∷ [])
+totals-last reported one =
     let long : length reported + 1 ≡ length (reported ++ one ∷ []) = sym (length-append reported (one ∷ [])) in
-    let optimal = sym (count-last (λ (r : Reported). is_optimal r.finding) reported one) in
-    let unsolved = sym (count-last (λ (r : Reported). is_unsolved r.finding) reported one) in
-    let undecided = sym (count-last (λ (r : Reported). is_undecided r.finding) reported one) in
-    let unjudged = sym (count-last (λ (r : Reported). is_unjudged r.finding) reported one) in
-    λ i. record { levels = long i; optimal = optimal i; unsolved = unsolved i; undecided = undecided i; unjudged = unjudged i }
+    let optimal = sym (count-last (λ (r : Reported). is_optimal r.kind) reported one) in
+    let unsolved = sym (count-last (λ (r : Reported). is_unsolved r.kind) reported one) in
+    let beaten = sym (count-last (λ (r : Reported). is_beaten r.kind) reported one) in
+    let undecided = sym (count-last (λ (r : Reported). is_undecided r.kind) reported one) in
+    let out_of_memory = sym (count-last (λ (r : Reported). is_out_of_memory r.kind) reported one) in
+    let unjudged = sym (count-last (λ (r : Reported). is_unjudged r.kind) reported one) in
+    let unread = sym (count-last (λ (r : Reported). is_unread r.kind) reported one) in
+    let missing = sym (count-last (λ (r : Reported). is_missing r.kind) reported one) in
+    λ i. record {
+      levels = long i;
+      optimal = optimal i;
+      unsolved = unsolved i;
+      beaten = beaten i;
+      undecided = undecided i;
+      out_of_memory = out_of_memory i;
+      unjudged = unjudged i;
+      unread = unread i;
+      missing = missing i;
+    }
 
 few-of : (reported : List Reported) → length reported ≤ MAX_FILE → AreFewLevels (totals_of reported)
 few-of reported few =
-    let optimal = count_by-le-length (λ (r : Reported). is_optimal r.finding) reported in
-    let unsolved = count_by-le-length (λ (r : Reported). is_unsolved r.finding) reported in
-    let undecided = count_by-le-length (λ (r : Reported). is_undecided r.finding) reported in
-    let unjudged = count_by-le-length (λ (r : Reported). is_unjudged r.finding) reported in
+    let optimal = count_by-le-length (λ (r : Reported). is_optimal r.kind) reported in
+    let unsolved = count_by-le-length (λ (r : Reported). is_unsolved r.kind) reported in
+    let beaten = count_by-le-length (λ (r : Reported). is_beaten r.kind) reported in
+    let undecided = count_by-le-length (λ (r : Reported). is_undecided r.kind) reported in
+    let out_of_memory = count_by-le-length (λ (r : Reported). is_out_of_memory r.kind) reported in
+    let unjudged = count_by-le-length (λ (r : Reported). is_unjudged r.kind) reported in
+    let unread = count_by-le-length (λ (r : Reported). is_unread r.kind) reported in
+    let missing = count_by-le-length (λ (r : Reported). is_missing r.kind) reported in
     record {
       levels = few;
       optimal = omega (arith, optimal, few);
       unsolved = omega (arith, unsolved, few);
+      beaten = omega (arith, beaten, few);
       undecided = omega (arith, undecided, few);
+      out_of_memory = omega (arith, out_of_memory, few);
       unjudged = omega (arith, unjudged, few);
+      unread = omega (arith, unread, few);
+      missing = omega (arith, missing, few);
     }
+
+-- ---- lines
+
+lines-last : (reported : List Reported) (one : Reported) → lines_of (reported ++ one ∷ []) ≡ lines_of reported ++ one.text ∷ []
+lines-last [] one = refl
+lines-last (first ∷ reported) one = ap (λ (ls : List (List ℕ)). first.text ∷ ls) (lines-last reported one)
+
+-- a line more after the first line
+line-more : (head : List ℕ) (old mid new : Seen) (reported : List Reported) (one : Reported) → WritesLines old mid (head ∷ lines_of reported) →
+    WritesWhole mid new one.text → WritesLines old new (head ∷ lines_of (reported ++ one ∷ []))
+line-more head old mid new reported one before last =
+    subst (λ (ls : List (List ℕ)). WritesLines old new (head ∷ ls)) (sym (lines-last reported one)) (runs.more new one.text before last)
 
 -- ---- levels
 
 -- how far a collection was reported: the lines of its first levels
-pub record HasReported (wanted : Bool) (cap : Option ℕ) (limit from to : ℕ) (bytes : List ℕ) (left : Collection) (number : ℕ)
-    (totals : Totals) (old new : Seen) : Type 0 where
+pub record HasReported (IsRight : ℕ → Listed → Reported → Type 0) (head : List ℕ) (from to : ℕ) (bytes : List ℕ) (left : Collection)
+    (number : ℕ) (totals : Totals) (old new : Seen) : Type 0 where
   pub listing : List Listed
   pub so_far : HasListed bytes left listing
   pub reported : List Reported
-  pub right : AreReported wanted cap limit from to listing reported
+  pub right : AreReported IsRight from to listing reported
   pub counted_are : number ≡ length listing
   pub totals_are : totals ≡ totals_of reported
   pub few : length reported ≤ length listing
-  pub written : WritesWhole old new (reported_lines cap limit reported)
+  pub written : WritesLines old new (head ∷ lines_of reported)
   pub room : number + lines_left left ≤ MAX_FILE
 
-pub reported_none : (wanted : Bool) (cap : Option ℕ) (limit from to : ℕ) (bytes : List ℕ) (left : Collection) (totals : Totals) (seen : Seen) →
-    HasRead bytes left [] → lines_left left ≤ MAX_FILE → totals ≡ totals_of [] → HasReported wanted cap limit from to bytes left 0 totals seen seen
-reported_none wanted cap limit from to bytes left totals seen read few is = record {
+pub reported_none : (IsRight : ℕ → Listed → Reported → Type 0) (head : List ℕ) (from to : ℕ) (bytes : List ℕ) (left : Collection) (totals : Totals)
+    (text : List ℕ) (old new : Seen) → HasRead bytes left [] → lines_left left ≤ MAX_FILE → text ≡ head → WritesWhole old new text →
+    totals ≡ totals_of [] → HasReported IsRight head from to bytes left 0 totals old new
+reported_none IsRight head from to bytes left totals text old new read few same written is = record {
   listing = [];
   so_far = record { founds = []; read = read; each = tt };
   reported = [];
@@ -95,23 +127,23 @@ reported_none wanted cap limit from to bytes left totals seen read few is = reco
   counted_are = refl;
   totals_are = is;
   few = omega arith;
-  written = wrote_none seen;
+  written = runs.more new head runs.none (subst (λ (l : List ℕ). WritesWhole old new l) same written);
   room = omega arith;
 }
 
 -- the totals are few
-pub reported_few : (wanted : Bool) (cap : Option ℕ) (limit from to : ℕ) (bytes : List ℕ) (left : Collection) (number : ℕ) (totals : Totals) (old new : Seen) →
-    HasReported wanted cap limit from to bytes left number totals old new → AreFewLevels totals
-reported_few wanted cap limit from to bytes left number totals old new is =
+pub reported_few : (IsRight : ℕ → Listed → Reported → Type 0) (head : List ℕ) (from to : ℕ) (bytes : List ℕ) (left : Collection) (number : ℕ) (totals : Totals) (old new : Seen) →
+    HasReported IsRight head from to bytes left number totals old new → AreFewLevels totals
+reported_few IsRight head from to bytes left number totals old new is =
     let counted_are = is.counted_are in let few = is.few in let room = is.room in
     subst (λ (t : Totals). AreFewLevels t) (sym is.totals_are) (few-of is.reported (omega (arith, counted_are, few, room)))
 
 -- a level more, whose number is not in the range
-pub reported_outside : {wanted : Bool} {cap : Option ℕ} {limit from to : ℕ} {bytes : List ℕ} {first : Collection} {number : ℕ}
-    {totals : Totals} {old new : Seen} (last : Collection) (entry : BoardEntry) (is : HasReported wanted cap limit from to bytes first number totals old new) →
+pub reported_outside : {IsRight : ℕ → Listed → Reported → Type 0} {head : List ℕ} {from to : ℕ} {bytes : List ℕ} {first : Collection} {number : ℕ}
+    {totals : Totals} {old new : Seen} (last : Collection) (entry : BoardEntry) (is : HasReported IsRight head from to bytes first number totals old new) →
     GivesNext bytes is.so_far.founds last (Some entry) → lines_left last < lines_left first → ¬ (IsBetween from to (number + 1)) →
-    HasReported wanted cap limit from to bytes last (number + 1) totals old new
-reported_outside {wanted} {cap} {limit} {from} {to} {bytes} {first} {number} {totals} {old} {new} last entry is next fewer not =
+    HasReported IsRight head from to bytes last (number + 1) totals old new
+reported_outside {IsRight} {head} {from} {to} {bytes} {first} {number} {totals} {old} {new} last entry is next fewer not =
     let counted_are = is.counted_are in let long = length-append is.listing (listed_of entry ∷ []) in let room = is.room in let few = is.few in
     let at : suc (length is.listing) ≡ number + 1 = omega (arith, counted_are) in
     record {
@@ -133,157 +165,198 @@ begins-of bytes left listing is =
     record { founds = is.founds; others = rest.0; all = rest.1; each = is.each }
 
 -- what the levels have with one more
-right-more : (wanted : Bool) (cap : Option ℕ) (limit from to n : ℕ) (listing : List Listed) (reported : List Reported) (listed : Listed) (finding : Finding) →
-    AreReported wanted cap limit from to listing reported → n ≡ suc (length listing) → IsBetween from to n → IsFinding wanted cap limit listed.board finding →
-    AreReported wanted cap limit from to (listing ++ listed ∷ []) (reported ++ record { number = n; finding = finding } ∷ [])
-right-more wanted cap limit from to n listing reported listed finding right at within is =
-    let P : ℕ → Type 0 = λ (k : ℕ). IsBetween from to k →
-    AreReported wanted cap limit from to (listing ++ listed ∷ []) (reported ++ record { number = k; finding = finding } ∷ []) in
-    subst P (sym at) (λ inside_it. inside listed finding right inside_it is) within
+right-more : (IsRight : ℕ → Listed → Reported → Type 0) (from to n : ℕ) (listing : List Listed) (reported : List Reported) (listed : Listed) (one : Reported) →
+    AreReported IsRight from to listing reported → n ≡ suc (length listing) → IsBetween from to n → IsRight n listed one →
+    AreReported IsRight from to (listing ++ listed ∷ []) (reported ++ one ∷ [])
+right-more IsRight from to n listing reported listed one right at in_range is =
+    inside listed one right (subst (λ (k : ℕ). IsBetween from to k) at in_range) (subst (λ (k : ℕ). IsRight k listed one) at is)
 
 -- a level more, whose line was written
-pub reported_inside : {wanted : Bool} {cap : Option ℕ} {limit from to : ℕ} {bytes : List ℕ} {first : Collection} {number : ℕ} {totals : Totals} {old mid : Seen}
-    (last : Collection) (entry : BoardEntry) (more : Totals) (new : Seen) (is : HasReported wanted cap limit from to bytes first number totals old mid) →
+pub reported_inside : {IsRight : ℕ → Listed → Reported → Type 0} {head : List ℕ} {from to : ℕ} {bytes : List ℕ} {first : Collection} {number : ℕ} {totals : Totals} {old mid : Seen}
+    (last : Collection) (entry : BoardEntry) (more : Totals) (new : Seen) (is : HasReported IsRight head from to bytes first number totals old mid) →
     GivesNext bytes is.so_far.founds last (Some entry) → lines_left last < lines_left first → IsBetween from to (number + 1) →
-    SendsLevel wanted cap limit (number + 1) entry.board totals mid new (Ok more) →
-    HasReported wanted cap limit from to bytes last (number + 1) more old new
-reported_inside {wanted} {cap} {limit} {from} {to} {bytes} {first} {number} {totals} {old} {mid} last entry more new is next fewer within sends =
+    SendsLevel IsRight (number + 1) (listed_of entry) totals mid new (Ok more) →
+    HasReported IsRight head from to bytes last (number + 1) more old new
+reported_inside {IsRight} {head} {from} {to} {bytes} {first} {number} {totals} {old} {mid} last entry more new is next fewer in_range sends =
     let counted_are = is.counted_are in let long = length-append is.listing (listed_of entry ∷ []) in let room = is.room in let few = is.few in
-    let finding = sends.0 in
-    let one : Reported = record { number = number + 1; finding = finding } in
-    let lines = flat_map_more (reported_line cap limit) [] is.reported one in
+    let one = sends.0 in
     let wider = length-append is.reported (one ∷ []) in
     record {
       listing = is.listing ++ listed_of entry ∷ [];
       so_far = listed-more last entry is.so_far next;
       reported = is.reported ++ one ∷ [];
-      right = right-more wanted cap limit from to (number + 1) is.listing is.reported (listed_of entry) finding is.right
-          (omega (arith, counted_are)) within sends.1;
+      right = right-more IsRight from to (number + 1) is.listing is.reported (listed_of entry) one is.right
+          (omega (arith, counted_are)) in_range sends.1;
       counted_are = omega (arith, counted_are, long);
-      totals_are = sends.3 ∙ ap (λ (t : Totals). counted t finding) is.totals_are ∙ totals-last is.reported (number + 1) finding;
+      totals_are = sends.3 ∙ ap (λ (t : Totals). counted t one.kind) is.totals_are ∙ totals-last is.reported one;
       few = omega (arith, long, few, wider);
-      written = subst (λ (l : List ℕ). WritesWhole old new l) lines (wrote_more old mid new (reported_lines cap limit is.reported) _ is.written sends.2);
+      written = line-more head old mid new is.reported one is.written sends.2;
       room = omega (arith, room, fewer);
     }
 
+-- the lines so far begin a report
+begins-report : (IsRight : ℕ → Listed → Reported → Type 0) (head : List ℕ) (from to : ℕ) (bytes : List ℕ) (left : Collection) (listing : List Listed)
+    (reported : List Reported) → HasListed bytes left listing → AreReported IsRight from to listing reported →
+    BeginsReportOnLevels IsRight head from to bytes (head ∷ lines_of reported)
+begins-report IsRight head from to bytes left listing reported so_far right = (listing, begins-of bytes left listing so_far, reported, right, refl)
+
+-- the first line was not written whole
+pub stopped_first : (IsRight : ℕ → Listed → Reported → Type 0) (head : List ℕ) (from to : ℕ) (bytes : List ℕ) (left : Collection) (text : List ℕ)
+    (old new : Seen) (fault : RunFault) → HasRead bytes left [] → text ≡ head → SendsLine {A = Unit} text old new (Err fault) →
+    StopsByLine (BeginsReportOnLevels IsRight head from to bytes) old new fault
+stopped_first IsRight head from to bytes left text old new Read read same sends = absurd sends
+stopped_first IsRight head from to bytes left text old new Write read same sends = (
+  [],
+  head,
+  begins-report IsRight head from to bytes left [] [] (record { founds = []; read = read; each = tt }) none,
+  record { between = old; whole = runs.none; part = subst (λ (l : List ℕ). WritesPart old new l) same sends },
+)
+stopped_first IsRight head from to bytes left text old new TooLong read same sends = absurd sends
+stopped_first IsRight head from to bytes left text old new OutOfMemory read same sends = absurd sends
+
 -- memory was refused between two lines
-pub stopped_between : (wanted : Bool) (cap : Option ℕ) (limit from to : ℕ) (bytes : List ℕ) (left : Collection) (number : ℕ) (totals : Totals) (old new : Seen)
-    (fault : RunFault) → HasReported wanted cap limit from to bytes left number totals old new → fault ≡ OutOfMemory →
-    SendsByLine (IsCollectionReport wanted cap limit from to bytes) (BeginsCollectionReport wanted cap limit from to bytes) old new (Err fault)
-stopped_between wanted cap limit from to bytes left number totals old new fault is e =
-    let P : RunFault → Type 0 = λ (f : RunFault).
-    SendsByLine (IsCollectionReport wanted cap limit from to bytes) (BeginsCollectionReport wanted cap limit from to bytes) old new (Err f) in
-    subst P (sym e)
-    (reported_lines cap limit is.reported, (is.listing, begins-of bytes left is.listing is.so_far, is.reported, is.right, refl), is.written)
+pub stopped_between : (IsRight : ℕ → Listed → Reported → Type 0) (head : List ℕ) (from to : ℕ) (bytes : List ℕ) (left : Collection) (number : ℕ)
+    (totals : Totals) (old new : Seen) → HasReported IsRight head from to bytes left number totals old new →
+    StopsByLine (BeginsReportOnLevels IsRight head from to bytes) old new OutOfMemory
+stopped_between IsRight head from to bytes left number totals old new is =
+    (head ∷ lines_of is.reported, begins-report IsRight head from to bytes left is.listing is.reported is.so_far is.right, is.written)
 
 -- a level could not be reported
-pub stopped_within : {wanted : Bool} {cap : Option ℕ} {limit from to : ℕ} {bytes : List ℕ} {first : Collection} {number : ℕ} {totals : Totals} {old mid : Seen}
-    (last : Collection) (entry : BoardEntry) (fault : RunFault) (new : Seen) (is : HasReported wanted cap limit from to bytes first number totals old mid) →
+pub stopped_within : {IsRight : ℕ → Listed → Reported → Type 0} {head : List ℕ} {from to : ℕ} {bytes : List ℕ} {first : Collection} {number : ℕ} {totals : Totals}
+    {old mid : Seen} (last : Collection) (entry : BoardEntry) (fault : RunFault) (new : Seen)
+    (is : HasReported IsRight head from to bytes first number totals old mid) →
     GivesNext bytes is.so_far.founds last (Some entry) → IsBetween from to (number + 1) →
-    SendsLevel wanted cap limit (number + 1) entry.board totals mid new (Err fault) →
-    SendsByLine (IsCollectionReport wanted cap limit from to bytes) (BeginsCollectionReport wanted cap limit from to bytes) old new (Err fault)
-stopped_within {wanted} {cap} {limit} {from} {to} {bytes} {first} {number} {totals} {old} {mid} last entry Read new is next within sends = absurd sends
-stopped_within {wanted} {cap} {limit} {from} {to} {bytes} {first} {number} {totals} {old} {mid} last entry Write new is next within sends =
+    SendsLevel IsRight (number + 1) (listed_of entry) totals mid new (Err fault) →
+    StopsByLine (BeginsReportOnLevels IsRight head from to bytes) old new fault
+stopped_within {IsRight} {head} {from} {to} {bytes} {first} {number} {totals} {old} {mid} last entry Read new is next in_range sends = absurd sends
+stopped_within {IsRight} {head} {from} {to} {bytes} {first} {number} {totals} {old} {mid} last entry Write new is next in_range sends =
     let counted_are = is.counted_are in
-    let one : Reported = record { number = number + 1; finding = sends.0 } in
+    let one = sends.0 in
     let so_far = listed-more last entry is.so_far next in
-    let right = right-more wanted cap limit from to (number + 1) is.listing is.reported (listed_of entry) sends.0 is.right
-    (omega (arith, counted_are)) within sends.1 in (
-      reported_lines cap limit is.reported,
-      reported_line cap limit one,
-      (
-        (is.listing, begins-of bytes first is.listing is.so_far, is.reported, is.right, refl),
-        inl (
-          is.listing ++ listed_of entry ∷ [],
-          begins-of bytes last (is.listing ++ listed_of entry ∷ []) so_far,
-          is.reported ++ one ∷ [],
-          right,
-          flat_map_more (reported_line cap limit) [] is.reported one,
-        ),
-      ),
+    let right = right-more IsRight from to (number + 1) is.listing is.reported (listed_of entry) one is.right
+    (omega (arith, counted_are)) in_range sends.1 in (
+      head ∷ lines_of is.reported,
+      one.text,
+      subst (λ (ls : List (List ℕ)). BeginsReportOnLevels IsRight head from to bytes (head ∷ ls)) (lines-last is.reported one)
+          (begins-report IsRight head from to bytes last (is.listing ++ listed_of entry ∷ []) (is.reported ++ one ∷ []) so_far right),
       record { between = mid; whole = is.written; part = sends.2 },
     )
-stopped_within {wanted} {cap} {limit} {from} {to} {bytes} {first} {number} {totals} {old} {mid} last entry TooLong new is next within sends = absurd sends
-stopped_within {wanted} {cap} {limit} {from} {to} {bytes} {first} {number} {totals} {old} {mid} last entry OutOfMemory new is next within sends = (
-  reported_lines cap limit is.reported,
-  (is.listing, begins-of bytes first is.listing is.so_far, is.reported, is.right, refl),
-  subst (λ (s : Seen). WritesWhole old s (reported_lines cap limit is.reported)) (sym sends) is.written,
+stopped_within {IsRight} {head} {from} {to} {bytes} {first} {number} {totals} {old} {mid} last entry TooLong new is next in_range sends = absurd sends
+stopped_within {IsRight} {head} {from} {to} {bytes} {first} {number} {totals} {old} {mid} last entry OutOfMemory new is next in_range sends = (
+  head ∷ lines_of is.reported,
+  begins-report IsRight head from to bytes first is.listing is.reported is.so_far is.right,
+  subst (λ (s : Seen). WritesLines old s (head ∷ lines_of is.reported)) (sym sends) is.written,
 )
 
 -- no board more: the lines of all levels are written
-pub reported_all : {wanted : Bool} {cap : Option ℕ} {limit from to : ℕ} {bytes : List ℕ} {first : Collection} {number : ℕ} {totals : Totals} {old new : Seen}
-    (last : Collection) (is : HasReported wanted cap limit from to bytes first number totals old new) → GivesNext bytes is.so_far.founds last None →
-    SendsLevels wanted cap limit from to bytes totals old new
-reported_all {wanted} {cap} {limit} {from} {to} {bytes} {first} {number} {totals} {old} {new} last is all = record {
+pub reported_all : {IsRight : ℕ → Listed → Reported → Type 0} {head : List ℕ} {from to : ℕ} {bytes : List ℕ} {first : Collection} {number : ℕ} {totals : Totals} {old new : Seen}
+    (last : Collection) (is : HasReported IsRight head from to bytes first number totals old new) → GivesNext bytes is.so_far.founds last None →
+    SendsLevels IsRight head from to bytes number totals old new
+reported_all {IsRight} {head} {from} {to} {bytes} {first} {number} {totals} {old} {new} last is all = record {
   listing = is.listing;
   lists = listed-all last is.so_far all;
   begins = begins-of bytes first is.listing is.so_far;
   reported = is.reported;
   right = is.right;
+  count_is = is.counted_are;
   totals_are = is.totals_are;
+  few = reported_few IsRight head from to bytes first number totals old new is;
   written = is.written;
 }
 
+-- ---- the last line
+
+-- there is no level of the first number
+pub last_beyond : (from count : ℕ) (last : List ℕ) (worst : ℕ) (old new : Seen) (result : Result ℕ RunFault) → count < from →
+    Sends (no_level from) old new result → SendsLast from count last worst old new result
+last_beyond from count last worst old new (Ok status) few sends =
+    ((no_level from).text, subst (λ (s : ℕ). EndsWith from count last worst (no_level from).text s) (sym sends.1) (beyond few), sends.0)
+last_beyond from count last worst old new (Err Read) few sends = absurd sends
+last_beyond from count last worst old new (Err Write) few sends = ((no_level from).text, (no_level from).status, beyond few, sends)
+last_beyond from count last worst old new (Err TooLong) few sends = absurd sends
+last_beyond from count last worst old new (Err OutOfMemory) few sends = absurd sends
+
+-- there is one, and the last line is written
+pub last_within : (from count : ℕ) (last : List ℕ) (worst : ℕ) (old new : Seen) → from ≤ count → WritesWhole old new last →
+    SendsLast from count last worst old new (Ok worst)
+last_within from count last worst old new many written = (last, within many, written)
+
+-- it is not written whole
+pub last_stopped : (from count : ℕ) (last : List ℕ) (worst : ℕ) (old new : Seen) (fault : RunFault) → from ≤ count → SendsLine {A = Unit} last old new (Err fault) →
+    SendsLast from count last worst old new (Err fault)
+last_stopped from count last worst old new Read many sends = absurd sends
+last_stopped from count last worst old new Write many sends = (last, worst, within many, sends)
+last_stopped from count last worst old new TooLong many sends = absurd sends
+last_stopped from count last worst old new OutOfMemory many sends = absurd sends
+
 -- ---- the report
 
--- the line of totals ends the report, or is not written whole
-pub sent_all : (wanted : Bool) (cap : Option ℕ) (limit from to : ℕ) (bytes : List ℕ) (totals : Totals) (old mid new : Seen) (status : ℕ) →
-    SendsLevels wanted cap limit from to bytes totals old mid → WritesWhole mid new (line_of_totals cap totals) → status ≡ status_of totals →
-    SendsByLine (IsCollectionReport wanted cap limit from to bytes) (BeginsCollectionReport wanted cap limit from to bytes) old new (Ok status)
-sent_all wanted cap limit from to bytes totals old mid new status is last e =
-    let words = subst (λ (t : Totals). WritesWhole mid new (line_of_totals cap t)) is.totals_are last in (
-      collection_report cap limit is.reported,
-      (is.listing, is.lists, is.reported, is.right, refl),
-      wrote_more old mid new (reported_lines cap limit is.reported) (totals_line cap is.reported) is.written words,
-      e ∙ ap status_of is.totals_are,
-    )
+-- the lines of the levels were not written whole
+pub stops_by_line : (IsReport : List (List ℕ) → ℕ → Type 0) (Begins : List (List ℕ) → Type 0) (old new : Seen) (fault : RunFault) →
+    StopsByLine Begins old new fault → SendsByLine IsReport Begins old new (Err fault)
+stops_by_line IsReport Begins old new Read stops = absurd stops
+stops_by_line IsReport Begins old new Write stops = (stops.0, stops.1, inl stops.2, stops.3)
+stops_by_line IsReport Begins old new TooLong stops = absurd stops
+stops_by_line IsReport Begins old new OutOfMemory stops = stops
 
-sent_part : (wanted : Bool) (cap : Option ℕ) (limit from to : ℕ) (bytes : List ℕ) (totals : Totals) (old mid new : Seen) (fault : RunFault) →
-    SendsLevels wanted cap limit from to bytes totals old mid → SendsLine {A = Unit} (line_of_totals cap totals) mid new (Err fault) →
-    SendsByLine (IsCollectionReport wanted cap limit from to bytes) (BeginsCollectionReport wanted cap limit from to bytes) old new (Err fault)
-sent_part wanted cap limit from to bytes totals old mid new Read is sends = absurd sends
-sent_part wanted cap limit from to bytes totals old mid new Write is sends =
-    let words = subst (λ (t : Totals). WritesPart mid new (line_of_totals cap t)) is.totals_are sends in (
-      reported_lines cap limit is.reported,
-      totals_line cap is.reported,
-      (
-        (is.listing, is.begins, is.reported, is.right, refl),
-        inr (collection_report cap limit is.reported, (is.listing, is.lists, is.reported, is.right, refl), refl),
-      ),
-      record { between = mid; whole = is.written; part = words },
-    )
-sent_part wanted cap limit from to bytes totals old mid new TooLong is sends = absurd sends
-sent_part wanted cap limit from to bytes totals old mid new OutOfMemory is sends = (
-  reported_lines cap limit is.reported,
+-- memory was refused after them
+pub stopped_last : (IsRight : ℕ → Listed → Reported → Type 0) (head : List ℕ) (from to : ℕ) (bytes : List ℕ) (count : ℕ) (totals : Totals) (old new : Seen) →
+    SendsLevels IsRight head from to bytes count totals old new → StopsByLine (BeginsReportOnLevels IsRight head from to bytes) old new OutOfMemory
+stopped_last IsRight head from to bytes count totals old new is =
+    (head ∷ lines_of is.reported, (is.listing, is.begins, is.reported, is.right, refl), is.written)
+
+-- the last line ends the report, or is not written whole
+pub sent_last : (IsRight : ℕ → Listed → Reported → Type 0) (head : List ℕ) (last : List Reported → List ℕ) (from to : ℕ) (bytes : List ℕ) (count : ℕ)
+    (totals : Totals) (old mid new : Seen) (result : Result ℕ RunFault) (is : SendsLevels IsRight head from to bytes count totals old mid) →
+    SendsLast from (length is.listing) (last is.reported) (worst_status is.reported) mid new result →
+    SendsByLine (IsReportOnLevels IsRight head last from to bytes) (BeginsReportOnLevels IsRight head from to bytes) old new result
+sent_last IsRight head last from to bytes count totals old mid new (Ok status) is sends = (
+  (head ∷ lines_of is.reported) ++ sends.0 ∷ [],
+  (is.listing, is.lists, is.reported, is.right, sends.0, sends.1, refl),
+  runs.more new sends.0 is.written sends.2,
+)
+sent_last IsRight head last from to bytes count totals old mid new (Err Read) is sends = absurd sends
+sent_last IsRight head last from to bytes count totals old mid new (Err Write) is sends = (
+  head ∷ lines_of is.reported,
+  sends.0,
+  inr (sends.1, (is.listing, is.lists, is.reported, is.right, sends.0, sends.2, refl)),
+  record { between = mid; whole = is.written; part = sends.3 },
+)
+sent_last IsRight head last from to bytes count totals old mid new (Err TooLong) is sends = absurd sends
+sent_last IsRight head last from to bytes count totals old mid new (Err OutOfMemory) is sends = (
+  head ∷ lines_of is.reported,
   (is.listing, is.begins, is.reported, is.right, refl),
-  subst (λ (s : Seen). WritesWhole old s (reported_lines cap limit is.reported)) (sym sends) is.written,
+  subst (λ (s : Seen). WritesLines old s (head ∷ lines_of is.reported)) (sym sends) is.written,
 )
 
-pub sent_error : (wanted : Bool) (cap : Option ℕ) (limit from to : ℕ) (bytes : List ℕ) (totals : Totals) (old mid new : Seen) (fault : RunFault)
-    (result : Result ℕ RunFault) → result ≡ Err fault → SendsLevels wanted cap limit from to bytes totals old mid →
-    SendsLine {A = Unit} (line_of_totals cap totals) mid new (Err fault) →
-    SendsByLine (IsCollectionReport wanted cap limit from to bytes) (BeginsCollectionReport wanted cap limit from to bytes) old new result
-sent_error wanted cap limit from to bytes totals old mid new fault result e is sends =
-    let P : Result ℕ RunFault → Type 0 = λ (r : Result ℕ RunFault).
-    SendsByLine (IsCollectionReport wanted cap limit from to bytes) (BeginsCollectionReport wanted cap limit from to bytes) old new r in
-    subst P (sym e) (sent_part wanted cap limit from to bytes totals old mid new fault is sends)
+-- the text and the status of the last line are by the totals
+pub sent_all : (IsRight : ℕ → Listed → Reported → Type 0) (head : List ℕ) (last : List Reported → List ℕ) (from to : ℕ) (bytes : List ℕ) (count : ℕ)
+    (totals : Totals) (old mid new : Seen) (text words : List ℕ) (worst : ℕ) (result : Result ℕ RunFault) →
+    SendsLevels IsRight head from to bytes count totals old mid → ((reported : List Reported) → totals ≡ totals_of reported → text ≡ last reported) →
+    words ≡ text → worst ≡ status_of totals → SendsLast from count words worst mid new result →
+    SendsByLine (IsReportOnLevels IsRight head last from to bytes) (BeginsReportOnLevels IsRight head from to bytes) old new result
+sent_all IsRight head last from to bytes count totals old mid new text words worst result is same shown status sends =
+    let by_text = subst (λ (l : List ℕ). SendsLast from count l worst mid new result) (shown ∙ same is.reported is.totals_are) sends in
+    let by_status = subst (λ (s : ℕ). SendsLast from count (last is.reported) s mid new result) (status ∙ ap status_of is.totals_are) by_text in
+    sent_last IsRight head last from to bytes count totals old mid new result is
+    (subst (λ (n : ℕ). SendsLast from n (last is.reported) (worst_status is.reported) mid new result) is.count_is by_status)
 
 -- an error that is passed on
 pub err_is : {T E : Type 0} (P : E → Type 0) (r : Result T E) (fault : E) → r ≡ Err fault → P fault → IfErr r P
 err_is {T = T} {E = E} P r fault e is = subst (λ (x : Result T E). IfErr x P) (sym e) is
 
 -- what was written is the report of what was read
-pub runs_by_line : (IsReport : List ℕ → Report → Type 0) (Begins : List ℕ → List ℕ → Type 0) (source read sink written : Seen) (bytes : List ℕ)
-    (result : Result ℕ RunFault) → ReadsWhole source read bytes → SendsByLine (IsReport bytes) (Begins bytes) sink written result →
+pub runs_by_line : (IsReport : List ℕ → List (List ℕ) → ℕ → Type 0) (Begins : List ℕ → List (List ℕ) → Type 0) (source read sink written : Seen)
+    (bytes : List ℕ) (result : Result ℕ RunFault) → ReadsWhole source read bytes → SendsByLine (IsReport bytes) (Begins bytes) sink written result →
     RunsByLine IsReport Begins source read sink written result
-runs_by_line IsReport Begins source read sink written bytes (Ok status) whole sends = (bytes, sends.0, whole, sends.1, sends.2, sends.3)
+runs_by_line IsReport Begins source read sink written bytes (Ok status) whole sends = (bytes, sends.0, whole, sends.1, sends.2)
 runs_by_line IsReport Begins source read sink written bytes (Err Read) whole sends = absurd sends
 runs_by_line IsReport Begins source read sink written bytes (Err Write) whole sends = (bytes, sends.0, sends.1, whole, sends.2, sends.3)
 runs_by_line IsReport Begins source read sink written bytes (Err TooLong) whole sends = absurd sends
 runs_by_line IsReport Begins source read sink written bytes (Err OutOfMemory) whole sends = inr (bytes, sends.0, whole, sends.1, sends.2)
 
 -- the reading stopped, and nothing was written
-pub stopped_reading : (IsReport : List ℕ → Report → Type 0) (Begins : List ℕ → List ℕ → Type 0) (source read sink : Seen) (fault : RunFault) →
+pub stopped_reading : (IsReport : List ℕ → List (List ℕ) → ℕ → Type 0) (Begins : List ℕ → List (List ℕ) → Type 0) (source read sink : Seen) (fault : RunFault) →
     Stops source read fault → RunsByLine IsReport Begins source read sink sink (Err fault)
 stopped_reading IsReport Begins source read sink Read stops = (stops, refl)
 stopped_reading IsReport Begins source read sink Write stops = absurd stops.cause

@@ -1,10 +1,12 @@
 -- The reports of a search for the fewest pushes.
-use Rattle.std.proofs.Common.{◌≡◌, ℕ, ◌<◌, ◌≤◌, Bool, true, false, List, length, Option, Some, None, Result, Ok, Err, IfOk, inl, inr, sym, subst, arith}
-use Rattle.std.proofs.lemmas.List.Sums.{count_by-le-length}
+use Rattle.std.proofs.Common.{◌≡◌, ℕ, ◌<◌, ◌≤◌, Bool, true, false, List, [], ◌∷◌, length, Option, Some, None, Result, Ok, Err, IfOk, inl, inr, refl, sym, subst, arith}
 use Rattle.grid.specs.Board.{Board}
+use Rattle.grid.proofs.lemmas.Plays.{length-pushes}
 use Rattle.grid.specs.Lawful.{box_count}
+use Rattle.grid.specs.Plays.{dirs_of}
 use Rattle.grid.specs.declared.limits.TheConstants.{MAX_BOXES}
 use Rattle.grid.specs.declared.moves.Letter.{Letter}
+use Rattle.lurd.proofs.lemmas.Solutions.{solution_of_solved}
 use Rattle.lurd.specs.Text.{IsText, HasTextFault}
 use Rattle.lurd.specs.Verdict.{IsVerdict}
 use Rattle.lurd.specs.declared.fault.LurdFault.{LurdFault}
@@ -12,15 +14,18 @@ use Rattle.lurd.specs.declared.limits.TheConstants.{MAX_MOVES}
 use Rattle.lurd.specs.declared.verdict.Verdict.{Verdict}
 use Rattle.lurd.specs.declared.verdict.Verdict.TheVariants.{Solved, Unsolved, Blocked, WrongCase}
 use Rattle.prover.specs.Fewest.{NoneHasFewer}
-use Rattle.prover.specs.Outcomes.{IsOutcome}
+use Rattle.prover.specs.Outcomes.{IsFault, IsOutcome}
 use Rattle.prover.specs.declared.outcome.Outcome.{Outcome}
 use Rattle.prover.specs.declared.outcome.Outcome.TheVariants.{Least, NoneWithin, Unsolvable, Limit}
+use Rattle.prover.specs.declared.outcome.SearchFault.{SearchFault}
+use Rattle.prover.specs.declared.outcome.SearchFault.TheVariants.{TooManyBoxes, OutOfMemory}
 use Rattle.shortest.specs.Outcomes.{IsMovesOutcome}
 use Rattle.shortest.specs.Shortest.{NoneIsBetter}
 use Rattle.shortest.specs.declared.outcome.MovesOutcome.{MovesOutcome}
 use Rattle.shortest.specs.declared.outcome.MovesOutcome.TheVariants as moves_outcome
 use Rattle.sokopar.specs.Best as best
-use Rattle.sokopar.specs.Collection.{IsFinding}
+use Rattle.sokopar.specs.Collection.{IsFinding, IsFound, reported_of}
+use Rattle.sokopar.specs.Listing.{Listed}
 use Rattle.sokopar.specs.Moves.{IsBestSolution, IsClaim}
 use Rattle.sokopar.specs.Proving as proving
 use Rattle.sokopar.specs.declared.finding.Finding.{Finding}
@@ -30,6 +35,8 @@ use Rattle.sokopar.specs.declared.moves.MovesClaim.{MovesClaim}
 use Rattle.sokopar.specs.declared.moves.MovesClaim.TheVariants.{Counted, Fewest, Open}
 use Rattle.sokopar.specs.declared.outcome.BestOutcome.{BestOutcome}
 use Rattle.sokopar.specs.declared.outcome.BestOutcome.TheVariants as best_outcome
+use Rattle.sokopar.specs.declared.proving.SearchConfig.{SearchConfig}
+use Rattle.sokopar.specs.declared.reported.Reported.{Reported}
 use Rattle.sokopar.specs.Report.{Report, IsSearchOf, too_many_boxes, verdict_report, text_fault_report}
 
 -- ---- a level
@@ -38,6 +45,29 @@ use Rattle.sokopar.specs.Report.{Report, IsSearchOf, too_many_boxes, verdict_rep
 pub least_of : (cap : Option ℕ) (limit : ℕ) (board : Board) (o : Outcome) (letters : List Letter) (pushes : ℕ) → IsOutcome board cap limit o →
     o ≡ Least letters pushes → IsOutcome board cap limit (Least letters pushes)
 least_of cap limit board o letters pushes is e = subst (λ (x : Outcome). IsOutcome board cap limit x) e is
+
+-- the number of pushes that an outcome says all solutions have at least
+pub bound_of_least : (o : Outcome) (letters : List Letter) (pushes : ℕ) → o ≡ Least letters pushes → (board : Board) (cap : Option ℕ) (limit : ℕ) →
+    IsOutcome board cap limit o → NoneHasFewer board pushes
+bound_of_least o letters pushes e board cap limit is = (least_of cap limit board o letters pushes is e).1
+
+pub bound_of_limit : (o : Outcome) (bound : ℕ) → o ≡ Limit bound → (board : Board) (cap : Option ℕ) (limit : ℕ) → IsOutcome board cap limit o →
+    NoneHasFewer board bound
+bound_of_limit o bound e board cap limit is = (subst (λ (x : Outcome). IsOutcome board cap limit x) e is).0
+
+pub bound_of_none : (o : Outcome) (board : Board) (cap : Option ℕ) (limit : ℕ) → IsOutcome board cap limit o → NoneHasFewer board 0
+bound_of_none o board cap limit is ds ps solution = omega arith
+
+pub ruleset bounds_of = (bound_of_least, bound_of_limit, bound_of_none)
+
+-- why a search failed
+pub many_of_fault : (board : Board) (fault : SearchFault) → IsFault board fault → fault ≡ TooManyBoxes → MAX_BOXES < box_count board
+many_of_fault board fault right is = subst (λ (it : SearchFault). IsFault board it) is right
+
+pub bound_of_fault : (board : Board) (fault : SearchFault) (bound : ℕ) → IsFault board fault → fault ≡ OutOfMemory bound → NoneHasFewer board bound
+bound_of_fault board fault bound right is = subst (λ (it : SearchFault). IsFault board it) is right
+
+pub ruleset of_search_fault = (many_of_fault, bound_of_fault)
 
 -- it is within the cap
 within_cap : (cap : Option ℕ) (limit : ℕ) (board : Board) (letters : List Letter) (pushes n : ℕ) → IsOutcome board cap limit (Least letters pushes) →
@@ -67,7 +97,11 @@ finds_unsolvable wanted cap limit board o is e = by (subst (λ (x : Outcome). Is
 
 pub finds_limit : (wanted : Bool) (cap : Option ℕ) (limit : ℕ) (board : Board) (o : Outcome) (bound : ℕ) → IsOutcome board cap limit o → o ≡ Limit bound →
     best.Finds wanted cap limit board (best_outcome.Limit bound)
-finds_limit wanted cap limit board o bound is e = subst (λ (x : Outcome). IsOutcome board cap limit x) e is
+finds_limit wanted cap limit board o bound is e = by cap (subst (λ (x : Outcome). IsOutcome board cap limit x) e is)
+  where
+    by : (cap : Option ℕ) → IsOutcome board cap limit (Limit bound) → best.Finds wanted cap limit board (best_outcome.Limit bound)
+    by None (fewest, more, allowed) = ((fewest, more), tt)
+    by (Some most) (fewest, more, allowed) = ((fewest, more), allowed)
 
 -- the report of a level
 abbrev pub IsBestOf : Bool → Option ℕ → ℕ → Board → Report → Type 0
@@ -88,12 +122,16 @@ best_many wanted cap limit board (Err e) many is = tt
 pub ruleset of_best = (best_found, best_many)
 
 -- what is found of a level of a collection
-pub found_on : {E : Type 0} (wanted : Bool) (cap : Option ℕ) (limit : ℕ) (board : Board) (o : BestOutcome) (r : Result Finding E) →
-    box_count board ≤ MAX_BOXES → best.Finds wanted cap limit board o → r ≡ Ok (Searched o) →
-    IfOk r (λ finding. IsFinding wanted cap limit (Ok board) finding)
-found_on {E = E} wanted cap limit board o r few so e =
-    let P : Result Finding E → Type 0 = λ (x : Result Finding E). IfOk x (λ finding. IsFinding wanted cap limit (Ok board) finding) in
-    subst P (sym e) (few, so)
+pub found_on : (wanted : Bool) (cap : Option ℕ) (limit : ℕ) (board : Board) (o : BestOutcome) → box_count board ≤ MAX_BOXES →
+    best.Finds wanted cap limit board o → IsFinding wanted cap limit (Ok board) (Searched o)
+found_on wanted cap limit board o few so = (few, so)
+
+-- what the report has of a level is that of what is found
+pub reports_found : {E : Type 0} (table : Bool) (config : SearchConfig) (n : ℕ) (listed shown : Listed) (finding : Finding) (r : Result Reported E) →
+    shown ≡ listed → IsFinding config.moves config.cap config.limit shown.board finding →
+    IfOk r (λ one. one ≡ reported_of table config.cap config.limit n shown finding) → IfOk r (λ one. IsFound table config n listed one)
+reports_found table config n listed shown finding (Ok one) same is made = subst (λ (l : Listed). IsFound table config n l one) same (finding, is, made)
+reports_found table config n listed shown finding (Err e) same is made = tt
 
 -- ---- a solution
 
@@ -135,12 +173,47 @@ pub claim_open : (wanted : Bool) (limit : ℕ) (board : Board) (pushes moves : �
 claim_open wanted limit board pushes moves o e is limited =
     subst (λ (b : Bool). IsClaim b limit board pushes moves Open) (sym e) (subst (λ (x : MovesOutcome). IsMovesOutcome board pushes limit x) limited is)
 
-pub judged_limit : {E : Type 0} (wanted : Bool) (limit most : ℕ) (board : Board) (pushes moves bound : ℕ) (o : Outcome) (r : Result Report E) →
-    box_count board ≤ MAX_BOXES → IsOutcome board (Some most) limit o → o ≡ Limit bound →
-    IfOk r (λ report. report ≡ proving.undecided_report limit bound pushes moves) → IfOk r (λ report. IsOfSolved wanted limit board pushes moves report)
-judged_limit wanted limit most board pushes moves bound o (Ok report) few so e is =
-    inr (few, proving.undecided bound (subst (λ (x : Outcome). IsOutcome board (Some most) limit x) e so) is)
-judged_limit wanted limit most board pushes moves bound o (Err x) few so e is = tt
+-- what a search within a cap says at its limit
+pub limit_bounds : (limit most : ℕ) (board : Board) (bound : ℕ) (o : Outcome) → IsOutcome board (Some most) limit o → o ≡ Limit bound →
+    best.IsUndecided limit board bound × (bound ≤ most)
+limit_bounds limit most board bound o so e =
+    let (fewest, more, allowed) = subst (λ (x : Outcome). IsOutcome board (Some most) limit x) e so in ((fewest, more), allowed)
+
+-- the numbers of moves and of letters are the same
+pub solved_long : (board : Board) (letters : List Letter) (v : Verdict) (pushes moves : ℕ) → v ≡ Solved pushes moves → IsVerdict board letters v →
+    IsVerdict board letters (Solved pushes (length letters))
+solved_long board letters v pushes moves e is =
+    let solved = subst (λ (u : Verdict). IsVerdict board letters u) e is in
+    let writes = solution_of_solved board letters pushes moves solved in
+    subst (λ (n : ℕ). IsVerdict board letters (Solved pushes n)) (sym writes.moves_are) solved
+
+-- a solution that has no more pushes than a bound has the fewest
+pub fewest_at_bound : (limit : ℕ) (board : Board) (bound pushes : ℕ) → best.IsUndecided limit board bound → pushes ≤ bound → NoneHasFewer board pushes
+fewest_at_bound limit board bound pushes open_at few ds ps solution = let least = open_at.0 ds ps solution in omega (arith, least, few)
+
+-- a solution with fewer pushes is the report if the search ended at its limit
+pub judged_found : {E : Type 0} (wanted : Bool) (limit : ℕ) (board : Board) (pushes moves : ℕ) (letters : List Letter) (fewer bound : ℕ) (r : Result Report E) →
+    IsVerdict board letters (Solved fewer (length letters)) → fewer < pushes → best.IsUndecided limit board bound → bound < fewer →
+    IfOk r (λ report. report ≡ proving.found_report limit bound pushes moves fewer letters) →
+    IfOk r (λ report. proving.IsProved wanted limit pushes moves board report)
+judged_found wanted limit board pushes moves letters fewer bound (Ok report) solved less undecided most is =
+    proving.found letters fewer bound solved less undecided most is
+judged_found wanted limit board pushes moves letters fewer bound (Err e) solved less undecided most is = tt
+
+-- a solution with fewer moves is the report if the search for the fewest moves ended at its limit
+pub judged_shorter : {E : Type 0} (wanted : Bool) (limit : ℕ) (board : Board) (pushes moves : ℕ) (letters : List Letter) (r : Result Report E) →
+    IsVerdict board letters (Solved pushes (length letters)) → NoneHasFewer board pushes → length letters < moves →
+    IsClaim wanted limit board pushes moves Open → IfOk r (λ report. report ≡ proving.shorter_report limit pushes moves letters) →
+    IfOk r (λ report. proving.IsProved wanted limit pushes moves board report)
+judged_shorter wanted limit board pushes moves letters (Ok report) solved none less claimed is = proving.shorter letters (solved, none) less claimed is
+judged_shorter wanted limit board pushes moves letters (Err e) solved none less claimed is = tt
+
+-- without a better one the report is the bound
+pub judged_open : {E : Type 0} (wanted : Bool) (limit : ℕ) (board : Board) (pushes moves bound : ℕ) (r : Result Report E) →
+    best.IsUndecided limit board bound → bound < pushes → IfOk r (λ report. report ≡ proving.undecided_report limit bound pushes moves) →
+    IfOk r (λ report. proving.IsProved wanted limit pushes moves board report)
+judged_open wanted limit board pushes moves bound (Ok report) undecided less is = proving.undecided bound undecided less is
+judged_open wanted limit board pushes moves bound (Err e) undecided less is = tt
 
 pub judged_many : {E : Type 0} (wanted : Bool) (limit : ℕ) (board : Board) (pushes moves : ℕ) (r : Result Report E) → MAX_BOXES < box_count board →
     IfOk r (λ report. report ≡ too_many_boxes) → IfOk r (λ report. IsOfSolved wanted limit board pushes moves report)
@@ -153,18 +226,25 @@ judged_few wanted limit board pushes moves (Ok report) few is = inr (few, is)
 judged_few wanted limit board pushes moves (Err e) few is = tt
 
 -- the report of a solution is what it is judged to be, if the boxes are not too many
-pub ruleset of_judged = (judged_few, judged_limit, judged_many)
+pub ruleset of_judged = (judged_few, judged_many)
 
 -- ---- letters and texts
+
+-- letters have as many directions
+dirs_long : (letters : List Letter) → length (dirs_of letters) ≡ length letters
+dirs_long [] = refl
+dirs_long (x ∷ xs) = let rest = dirs_long xs in omega (arith, rest)
 
 -- letters that solve the level have no more pushes than moves
 pub few_pushes : (board : Board) (letters : List Letter) (v : Verdict) (pushes moves : ℕ) → v ≡ Solved pushes moves → IsVerdict board letters v →
     length letters ≤ MAX_MOVES → pushes ≤ MAX_MOVES
 few_pushes board letters v pushes moves e is few =
-    let solved = subst (λ (u : Verdict). IsVerdict board letters u) e is in
-    let count = solved.1 in
-    let less = count_by-le-length (λ (letter : Letter). letter.push) letters in
-    omega (arith, count, less, few)
+    let writes = solution_of_solved board letters pushes moves (subst (λ (u : Verdict). IsVerdict board letters u) e is) in
+    let (end, play, solved) = writes.solution in
+    let less = length-pushes play in
+    let long = dirs_long letters in
+    let count = writes.pushes_are in
+    omega (arith, count, less, long, few)
 
 -- the report of letters
 abbrev pub IsOfMoves : Bool → ℕ → Board → List Letter → Report → Type 0

@@ -58,7 +58,7 @@ pub record HasChecked (bytes : List ℕ) (left : Collection) (text : List ℕ) (
   pub few : good ≤ levels
   pub room : levels + lines_left left ≤ MAX_FILE
 
-pub checked-none : (bytes : List ℕ) (left : Collection) (text : List ℕ) → HasRead bytes left [] → text ≡ [] → lines_left left ≤ MAX_FILE →
+abbrev pub checked-none : (bytes : List ℕ) (left : Collection) (text : List ℕ) → HasRead bytes left [] → text ≡ [] → lines_left left ≤ MAX_FILE →
     HasChecked bytes left text 0 0
 checked-none bytes left text read none few = record {
   listing = [];
@@ -70,7 +70,7 @@ checked-none bytes left text read none few = record {
   room = omega arith;
 }
 
-lines-last : (n p : ℕ) (listing : List Listed) (listed : Listed) → p ≡ n + length listing →
+pub lines-last : (n p : ℕ) (listing : List Listed) (listed : Listed) → p ≡ n + length listing →
     check_lines n (listing ++ listed ∷ []) ≡ check_lines n listing ++ check_line p listed
 lines-last n p [] listed at =
     let same : n ≡ p = omega arith in append-nil (check_line n listed) ∙ ap (λ k. check_line k listed) same
@@ -78,11 +78,11 @@ lines-last n p (l ∷ listing) listed at =
     ap (λ t. check_line n l ++ t) (lines-last (suc n) p listing listed (omega arith)) ∙
     sym (append_assoc (check_line n l) (check_lines (suc n) listing) (check_line p listed))
 
-abbrev goods : List Listed → ℕ
+abbrev pub goods : List Listed → ℕ
 goods [] = 0
 goods (l ∷ listing) = cond (is_good l) (1 + goods listing) (goods listing)
 
-goods-are : (listing : List Listed) → goods listing ≡ good_count listing
+pub goods-are : (listing : List Listed) → goods listing ≡ good_count listing
 goods-are listing = is_count_by goods is_good refl (λ x xs. refl) listing
 
 pub good-first : (b : Bool) (n : ℕ) → cond b (1 + n) n ≡ cond b (n + 1) n
@@ -95,16 +95,16 @@ good-on true false n m e = ap (λ k. 1 + k) e
 good-on false true n m e = e
 good-on false false n m e = e
 
-goods-last : (listing : List Listed) (listed : Listed) → goods (listing ++ listed ∷ []) ≡ cond (is_good listed) (goods listing + 1) (goods listing)
+pub goods-last : (listing : List Listed) (listed : Listed) → goods (listing ++ listed ∷ []) ≡ cond (is_good listed) (goods listing + 1) (goods listing)
 goods-last [] listed = good-first (is_good listed) 0
 goods-last (l ∷ listing) listed = good-on (is_good l) (is_good listed) (goods listing) (goods (listing ++ listed ∷ [])) (goods-last listing listed)
 
-good-bound : (t : Bool) (now good levels : ℕ) → now ≡ cond t (good + 1) good → good ≤ levels → now ≤ levels + 1
+pub good-bound : (t : Bool) (now good levels : ℕ) → now ≡ cond t (good + 1) good → good ≤ levels → now ≤ levels + 1
 good-bound true now good levels e few = let f : now ≡ good + 1 = e in omega arith
 good-bound false now good levels e few = let f : now ≡ good = e in omega arith
 
 -- a board more is checked
-pub checked-more : {bytes text : List ℕ} {first : Collection} {levels good : ℕ} (last : Collection) (entry : BoardEntry) (more : List ℕ) (now : ℕ) (t : Bool)
+abbrev pub checked-more : {bytes text : List ℕ} {first : Collection} {levels good : ℕ} (last : Collection) (entry : BoardEntry) (more : List ℕ) (now : ℕ) (t : Bool)
     (is : HasChecked bytes first text levels good)
     → GivesNext bytes is.so_far.founds last (Some entry) → lines_left last < lines_left first → t ≡ is_good (listed_of entry) → now ≡ cond t (good + 1) good
     → more ≡ text ++ check_line (levels + 1) (listed_of entry) → HasChecked bytes last more (levels + 1) now

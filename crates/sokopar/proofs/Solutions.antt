@@ -1,15 +1,13 @@
 -- A solution that is given replays as solved, and so does the line that holds it.
-use Rattle.std.proofs.Common.{◌≡◌, ℕ, List, [], ◌∷◌, ◌++◌, length, Option, refl, sym, ap, ◌∙◌, append-nil}
+use Rattle.std.proofs.Common.{ℕ, List, [], ◌∷◌, ◌++◌, length, Option, refl, sym, ap, subst, ◌∙◌, append-nil}
 use Rattle.std.proofs.lemmas.Grind.{flat_map-append}
 use Rattle.std.specs.List.{AllByRecursion, flat_map}
 use Rattle.grid.specs.declared.moves.Letter.{Letter}
 use Rattle.grid.specs.Board.{Board}
-use Rattle.grid.specs.Plays.{dirs_of}
 use Rattle.lurd.specs.declared.verdict.Verdict.TheVariants as verdict
 use Rattle.lurd.specs.Text.{Piece, blank, IsPiece, IsText, spelling, meaning}
 use Rattle.lurd.specs.Verdict.{IsVerdict}
-use Rattle.lurd.specs.inside.Item.{upper_count}
-use Rattle.lurd.proofs.lemmas.Solutions.{pushes_of_play}
+use Rattle.lurd.proofs.lemmas.Solutions.{solved_of_play}
 use Rattle.solo.specs.declared.answer.Answer.TheVariants as answer
 use Rattle.successors.specs.Capping.{capped}
 use Rattle.solo.specs.Answers.{IsAnswer}
@@ -19,15 +17,8 @@ pub solution_replays : (board : Board) (cap : Option ℕ) (limit : ℕ) (moves :
     IsAnswer (capped board cap) limit (answer.Solved moves pushes positions) → IsVerdict board moves (verdict.Solved pushes (length moves))
 solution_replays board cap limit moves pushes positions is =
     let writes = is.0 in
-    let count : upper_count moves ≡ length writes.list = sym (ap (λ (ls : List Letter). upper_count ls) writes.written) ∙ pushes_of_play writes.play in (
-      record {
-        state = writes.end;
-        leads = record { dirs = dirs_of moves; pushes = writes.list; play = writes.play; written = writes.written };
-        end = writes.solved;
-      },
-      sym (count ∙ writes.count),
-      refl,
-    )
+    subst (λ (n : ℕ). IsVerdict board moves (verdict.Solved n (length moves))) writes.count
+    (solved_of_play writes.play writes.written writes.solved)
 
 each_and : (pieces : List Piece) (piece : Piece) → AllByRecursion IsPiece pieces → IsPiece piece → AllByRecursion IsPiece (pieces ++ piece ∷ [])
 each_and [] piece each is = (is, tt)

@@ -28,12 +28,13 @@ IsWithinCap (Some most) pushes = pushes ≤ most
 
 -- the outcome is right for a level, as the fewest moves are wanted or not, under a cap of pushes and a limit of
 -- positions: a solution with the fewest pushes, no more than the cap; or that each solution has more pushes than the
--- cap; or, without a cap, that there is no solution; or that the search ended at its limit
+-- cap; or, without a cap, that there is no solution; or that the search ended at its limit, with a bound that the cap
+-- allows
 abbrev pub Finds : Bool → Option ℕ → ℕ → Board → BestOutcome → Type 0
 Finds wanted cap limit board (Least best) = IsBestSolution wanted limit board best × IsWithinCap cap best.pushes
 Finds wanted cap limit board NoneWithin = (most : ℕ) × (cap ≡ Some most) × NoneHasFewer board (suc most)
 Finds wanted cap limit board Unsolvable = (cap ≡ None) × IsUnsolvable board
-Finds wanted cap limit board (Limit bound) = IsUndecided limit board bound
+Finds wanted cap limit board (Limit bound) = IsUndecided limit board bound × IsWithinCap cap bound
 
 -- that a search ended at its limit; every solution has at least bound pushes
 abbrev pub undecided_words : ℕ → ℕ → List ℕ

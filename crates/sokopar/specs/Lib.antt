@@ -7,9 +7,13 @@ pub mod Runs
 pub mod Solving
 pub mod Moves
 pub mod Best
+pub mod Levels
+pub mod Table
 pub mod Collection
 pub mod Proving
+pub mod Folder
 pub mod OneReport
 pub mod OneAtMost
 pub mod Retelling
+pub mod Explaining
 pub mod inside

@@ -1,18 +1,21 @@
 -- What proving that a solution has the fewest pushes writes.
-use Rattle.std.specs.Prelude.{◌≡◌, ℕ, ◌<◌, ◌⊎◌, Bool, List, ◌++◌, length, Option, codes}
+use Rattle.std.specs.Prelude.{◌≡◌, ℕ, ◌<◌, ◌⊎◌, Bool, List, ◌++◌, length, Option, codes, decimal}
 use Rattle.grid.specs.Board.{Board}
+use Rattle.grid.specs.declared.moves.Letter.{Letter}
 use Rattle.lurd.specs.Text.{bytes_of}
+use Rattle.lurd.specs.Verdict.{IsVerdict}
 use Rattle.lurd.specs.declared.verdict.Verdict.{Verdict}
 use Rattle.lurd.specs.declared.verdict.Verdict.TheVariants.{Solved, Unsolved, Blocked, WrongCase}
 use Rattle.prover.specs.Fewest.{NoneHasFewer}
 use Rattle.sokopar.specs.Best.{IsUndecided, undecided_words}
 use Rattle.sokopar.specs.Listing.{Listed, IsLevelListing, level_at}
-use Rattle.sokopar.specs.Moves.{IsBestSolution, IsClaim, best_words, claim_status, claimed_words, optimal_words}
+use Rattle.sokopar.specs.Moves.{HasFewest, IsBestSolution, IsClaim, best_words, claim_status, claimed_words}
+use Rattle.sokopar.specs.Moves.{optimal_words}
 use Rattle.sokopar.specs.Report.{Report, ReportsOnText, IsOfText, IsSearchOf, counts_words, line, one_line}
 use Rattle.sokopar.specs.Report.{verdict_report}
 use Rattle.sokopar.specs.declared.moves.BestSolution.{BestSolution}
 use Rattle.sokopar.specs.declared.moves.MovesClaim.{MovesClaim}
-use Rattle.sokopar.specs.declared.moves.MovesClaim.TheVariants.{Fewest}
+use Rattle.sokopar.specs.declared.moves.MovesClaim.TheVariants.{Fewest, Open}
 
 -- a solution with the fewest pushes is better than one with these numbers of pushes and moves: it has fewer pushes; or
 -- as many pushes and fewer moves, and none with as few pushes has fewer moves
@@ -24,14 +27,35 @@ IsBetter best pushes moves =
 abbrev pub optimal_report : ℕ → ℕ → ℕ → MovesClaim → Report
 optimal_report limit pushes moves claim = one_line (claimed_words limit pushes moves claim) (claim_status claim)
 
--- the report of a solution if there is a better one: the numbers of pushes and moves of both, with the claim on the
--- better one, and its text as a line
-abbrev pub beaten_report : ℕ → ℕ → ℕ → BestSolution → Report
-beaten_report limit pushes moves best = record {
-  text = line (codes "not " ++ optimal_words pushes moves ++ codes ", " ++ best_words limit best) ++
-      line (bytes_of best.moves);
+-- the report of a solution if there is a better one: the numbers of pushes and moves of the given one, words on the
+-- better one, and its text as a second line
+abbrev pub better_report : ℕ → ℕ → List ℕ → List Letter → Report
+better_report pushes moves words letters = record {
+  text = line (codes "not " ++ optimal_words pushes moves ++ codes ", " ++ words) ++ line (bytes_of letters);
   status = 1;
 }
+
+-- this report with a solution that has the fewest pushes, and the claim on its moves
+abbrev pub beaten_report : ℕ → ℕ → ℕ → BestSolution → Report
+beaten_report limit pushes moves best = better_report pushes moves (best_words limit best) best.moves
+
+-- this report with a solution that has fewer pushes, if the search for the fewest pushes ended at its limit; every
+-- solution has at least bound pushes
+abbrev pub found_report : ℕ → ℕ → ℕ → ℕ → ℕ → List Letter → Report
+found_report limit bound pushes moves fewer letters = better_report pushes moves
+    (codes "found " ++ counts_words fewer (length letters) ++ codes ", " ++ undecided_words limit bound) letters
+
+-- the fewest pushes, and the moves of a solution that has as many, if the search for the fewest moves ended at its
+-- limit
+abbrev pub shorter_words : ℕ → ℕ → ℕ → List ℕ
+shorter_words limit pushes moves =
+    codes "optimal " ++ decimal pushes ++ codes " pushes, found " ++ decimal moves ++ codes " moves, limit " ++
+    decimal limit ++ codes " reached"
+
+-- this report with a solution that has as many pushes, the fewest, and fewer moves
+abbrev pub shorter_report : ℕ → ℕ → ℕ → List Letter → Report
+shorter_report limit pushes moves letters =
+    better_report pushes moves (shorter_words limit pushes (length letters)) letters
 
 -- the report of a solution if the search ended at its limit; every solution has at least bound pushes
 abbrev pub undecided_report : ℕ → ℕ → ℕ → ℕ → Report
@@ -39,15 +63,23 @@ undecided_report limit bound pushes moves =
     one_line (undecided_words limit bound ++ codes ", given " ++ counts_words pushes moves) 4
 
 -- the report of a solution by its numbers of pushes and moves, as the fewest moves are wanted or not, under a limit of
--- positions: that no solution has fewer pushes, with a claim on its moves; or a better one; or that the search for the
--- fewest pushes ended at its limit
+-- positions: that no solution has fewer pushes, with a claim on its moves; or a better one with the fewest pushes; or,
+-- if the search for the fewest pushes ended at its limit, one with fewer pushes, and a bound that is less than these;
+-- or, if the search for the fewest moves ended at its limit, one with as many pushes and fewer moves; or that the
+-- search for the fewest pushes ended at its limit, with a bound that is less than the given pushes
 pub data IsProved (wanted : Bool) (limit pushes moves : ℕ) (board : Board) (report : Report) : Type 0 where
   optimal : (claim : MovesClaim) → NoneHasFewer board pushes → IsClaim wanted limit board pushes moves claim →
       report ≡ optimal_report limit pushes moves claim → IsProved wanted limit pushes moves board report
   beaten : (best : BestSolution) → IsBestSolution wanted limit board best → IsBetter best pushes moves →
       report ≡ beaten_report limit pushes moves best → IsProved wanted limit pushes moves board report
-  undecided : (bound : ℕ) → IsUndecided limit board bound → report ≡ undecided_report limit bound pushes moves →
+  found : (letters : List Letter) (fewer bound : ℕ) → IsVerdict board letters (Solved fewer (length letters)) →
+      fewer < pushes → IsUndecided limit board bound → bound < fewer →
+      report ≡ found_report limit bound pushes moves fewer letters → IsProved wanted limit pushes moves board report
+  shorter : (letters : List Letter) → HasFewest board letters pushes → length letters < moves →
+      IsClaim wanted limit board pushes moves Open → report ≡ shorter_report limit pushes moves letters →
       IsProved wanted limit pushes moves board report
+  undecided : (bound : ℕ) → IsUndecided limit board bound → bound < pushes →
+      report ≡ undecided_report limit bound pushes moves → IsProved wanted limit pushes moves board report
 
 -- the report of letters by the verdict on them: where they solve the level, what the solution is judged to be;
 -- elsewhere the verdict

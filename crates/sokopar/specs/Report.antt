@@ -1,5 +1,5 @@
 -- What the program writes, and its exit status.
-use Rattle.std.specs.Prelude.{◌<◌, ◌≤◌}
+use Rattle.std.specs.Prelude.{◌<◌, ◌≤◌, Bool, true, false}
 use Rattle.std.specs.Prelude.{◌≡◌, ℕ, suc, ◌==◌, if◌then◌else◌, List, [], ◌∷◌, ◌++◌, length, count_by, is_ok, Result}
 use Rattle.std.specs.Prelude.{Ok, Err, Option, Some, None, codes}
 use Rattle.std.specs.Prelude.{decimal, ◌⊎◌}
@@ -26,6 +26,28 @@ pub record Report : Type 0 where
 -- a line ends with a line feed
 abbrev pub line : List ℕ → List ℕ
 line words = words ++ 10 ∷ []
+
+-- the bytes after the first line
+abbrev pub after_line : List ℕ → List ℕ
+after_line [] = []
+after_line (b ∷ bytes) = if b == 10 then bytes else after_line bytes
+
+-- a report without its first line: of a search the solution alone, if it has one
+abbrev pub without_first_line : Report → Report
+without_first_line report = record { text = after_line report.text; status = report.status }
+
+-- what is written of such a report: with the flag a report without its first line
+abbrev pub IsWrittenOf : Bool → (Report → Type 0) → Report → Type 0
+IsWrittenOf false IsReport = IsReport
+IsWrittenOf true IsReport = λ written. (report : Report) × IsReport report × (written ≡ without_first_line report)
+
+-- what is written of the report on a collection, and on a collection and a solution
+abbrev pub Written : Bool → (List ℕ → Report → Type 0) → List ℕ → Report → Type 0
+Written lurd IsReport bytes = IsWrittenOf lurd (IsReport bytes)
+
+abbrev pub WrittenOfTwo : Bool → (List ℕ → Option (List ℕ) → Report → Type 0) → List ℕ → Option (List ℕ) → Report →
+    Type 0
+WrittenOfTwo lurd IsReport bytes solution = IsWrittenOf lurd (IsReport bytes solution)
 
 -- a report of one line
 abbrev pub one_line : List ℕ → ℕ → Report

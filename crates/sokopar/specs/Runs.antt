@@ -98,30 +98,35 @@ RunsInTwo IsReport n source read second second_read sink written (Err Write) =
 RunsInTwo IsReport n source read second second_read sink written (Err fault) =
     StopsInTwo n source read second second_read fault × (written ≡ sink)
 
--- the sink took whole lines, then a beginning of the next line, then a write failed, and no other was asked for
-pub record WritesLinePart (old new : Seen) (lines next : List ℕ) : Type 0 where
+-- the sink took these lines, one after the other: no write took bytes of two of them
+pub data WritesLines (old : Seen) : Seen → List (List ℕ) → Type 0 where
+  none : WritesLines old old []
+  more : {between : Seen} {lines : List (List ℕ)} (new : Seen) (next : List ℕ) → WritesLines old between lines →
+      WritesWhole between new next → WritesLines old new (lines ++ next ∷ [])
+
+-- the sink took these lines, then a beginning of the next line, then a write failed, and no other was asked for
+pub record WritesLinesPart (old new : Seen) (lines : List (List ℕ)) (next : List ℕ) : Type 0 where
   pub between : Seen
-  pub whole : WritesWhole old between lines
+  pub whole : WritesLines old between lines
   pub part : WritesPart between new next
 
--- these are the first lines of a report, and the line that comes next, which may be the report's last one
-abbrev pub ComesNext : (Report → Type 0) → (List ℕ → Type 0) → List ℕ → List ℕ → Type 0
-ComesNext IsReport Begins lines next =
-    Begins lines × (Begins (lines ++ next) ⊎ ((report : Report) × IsReport report × (report.text ≡ lines ++ next)))
+-- the lines are the first ones of a report, or all of them
+abbrev pub BeginsOrEnds : (List (List ℕ) → ℕ → Type 0) → (List (List ℕ) → Type 0) → List (List ℕ) → Type 0
+BeginsOrEnds IsReport Begins lines = Begins lines ⊎ ((status : ℕ) × IsReport lines status)
 
--- what a run does that writes its report line by line, by its answer.  It reads the source to its end first.  The
--- report is written whole; or a write fails within a line, after whole lines; or memory is refused, after whole lines;
--- or the reading stops and nothing is written
-abbrev pub RunsByLine : (List ℕ → Report → Type 0) → (List ℕ → List ℕ → Type 0) → Seen → Seen → Seen → Seen →
-    Result ℕ RunFault → Type 0
+-- what a run does that writes its report line by line, by its answer.  It reads the source to its end first.  All lines
+-- of a report of what was read are written, and the answer is the report's status; or a write fails within a line, after
+-- the lines before it; or memory is refused, after whole lines; or the reading stops and nothing is written
+abbrev pub RunsByLine : (List ℕ → List (List ℕ) → ℕ → Type 0) → (List ℕ → List (List ℕ) → Type 0) → Seen → Seen →
+    Seen → Seen → Result ℕ RunFault → Type 0
 RunsByLine IsReport Begins source read sink written (Ok status) =
-    (bytes : List ℕ) × (report : Report) × ReadsWhole source read bytes × IsReport bytes report ×
-    WritesWhole sink written report.text × (status ≡ report.status)
+    (bytes : List ℕ) × (lines : List (List ℕ)) × ReadsWhole source read bytes × IsReport bytes lines status ×
+    WritesLines sink written lines
 RunsByLine IsReport Begins source read sink written (Err Write) =
-    (bytes : List ℕ) × (lines : List ℕ) × (next : List ℕ) × ReadsWhole source read bytes ×
-    ComesNext (IsReport bytes) (Begins bytes) lines next × WritesLinePart sink written lines next
+    (bytes : List ℕ) × (lines : List (List ℕ)) × (next : List ℕ) × ReadsWhole source read bytes ×
+    BeginsOrEnds (IsReport bytes) (Begins bytes) (lines ++ next ∷ []) × WritesLinesPart sink written lines next
 RunsByLine IsReport Begins source read sink written (Err OutOfMemory) =
     (Stops source read OutOfMemory × (written ≡ sink)) ⊎
-    ((bytes : List ℕ) × (lines : List ℕ) × ReadsWhole source read bytes × Begins bytes lines ×
-    WritesWhole sink written lines)
+    ((bytes : List ℕ) × (lines : List (List ℕ)) × ReadsWhole source read bytes × Begins bytes lines ×
+    WritesLines sink written lines)
 RunsByLine IsReport Begins source read sink written (Err fault) = Stops source read fault × (written ≡ sink)

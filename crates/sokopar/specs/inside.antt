@@ -3,3 +3,6 @@ pub mod Sending
 pub mod Trail
 pub mod Parts
 pub mod Totals
+pub mod Explaining
+pub mod Pages
+pub mod Proved

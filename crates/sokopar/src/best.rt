@@ -12,7 +12,7 @@ use crate::show::{fault_report, no_level};
 use crate::solve::{put_limit, too_many_boxes};
 use crate::text::Text;
 use grid::Level;
-use prover::SearchFault;
+use prover::{Progress, SearchFault};
 use std::alloc::{AllocError, Global};
 use std::thread::Threads;
 use xsb::MAX_FILE;
@@ -80,30 +80,32 @@ fn outcome_report(
     Ok(Report::new(text, status))
 }
 
-#[tactic(auto, using(crate::proofs::Judging::of_best))]
+#[tactic(auto, using(crate::proofs::Judging::of_best, crate::proofs::Judging::of_search_fault))]
 /// The report of a lawful level.
-fn best_of<R: Threads + Sync>(
+fn best_of<R: Threads + Sync, P: Progress>(
     rt: &R,
     alloc: Global,
     level: &Level,
     config: SearchConfig,
+    progress: &mut P,
 ) -> Result<Report, AllocError>
     ensures { IfOk result (λ report. IsSearchOf (IsBest config.moves config.cap config.limit) level.now report) }
 {
-    match search_best(rt, alloc, level, config) {
+    match search_best(rt, alloc, level, config, progress) {
         Ok(outcome) => outcome_report(alloc, &outcome, config.cap, config.limit),
         Err(SearchFault::TooManyBoxes) => too_many_boxes(alloc),
-        Err(SearchFault::OutOfMemory) => Err(AllocError),
+        Err(SearchFault::OutOfMemory { .. }) => Err(AllocError),
     }
 }
 
 /// The report of level N.
-fn best_report<R: Threads + Sync>(
+fn best_report<R: Threads + Sync, P: Progress>(
     rt: &R,
     alloc: Global,
     chosen: &Chosen,
     number: u32,
     config: SearchConfig,
+    progress: &mut P,
 ) -> Result<Report, AllocError>
     requires { 1 ≤ number }
     ensures { IfOk result (λ report. FindsOn config.moves config.cap config.limit number chosen.now report) }
@@ -111,22 +113,23 @@ fn best_report<R: Threads + Sync>(
     match chosen {
         None => no_level(alloc, number),
         Some(Err(fault)) => fault_report(alloc, *fault),
-        Some(Ok(level)) => best_of(rt, alloc, level, config),
+        Some(Ok(level)) => best_of(rt, alloc, level, config, progress),
     }
 }
 
 /// The report of level N of a collection.
-pub(crate) fn best_in<R: Threads + Sync>(
+pub(crate) fn best_in<R: Threads + Sync, P: Progress>(
     rt: &R,
     alloc: Global,
     bytes: &[u8],
     number: u32,
     config: SearchConfig,
+    progress: &mut P,
 ) -> Result<Report, AllocError>
     requires number { 1 ≤ number }
     requires bound { length bytes.now ≤ MAX_FILE }
     ensures { IfOk result (λ report. IsBestReport config.moves config.cap config.limit number bytes.now report) }
 {
     let chosen = level_of(alloc, bytes, number)?;
-    best_report(rt, alloc, &chosen, number, config)
+    best_report(rt, alloc, &chosen, number, config, progress)
 }

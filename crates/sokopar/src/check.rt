@@ -55,7 +55,7 @@ fn put_name(text: &mut Text, name: &[u8]) -> Result<(), AllocError>
 }
 
 /// Appends the line of a level.
-fn put_line(text: &mut Text, number: usize, entry: &BoardEntry) -> Result<(), AllocError>
+pub(crate) fn put_line(text: &mut Text, number: usize, entry: &BoardEntry) -> Result<(), AllocError>
     ensures { OnOk result (text.new ≡ text.old ++ check_line number (listed_of entry.now)) }
 {
     text.put_number(number)?;
@@ -71,14 +71,14 @@ fn put_line(text: &mut Text, number: usize, entry: &BoardEntry) -> Result<(), Al
 }
 
 /// Whether a board is a lawful level.
-fn is_good(entry: &BoardEntry) -> bool
+pub(crate) fn is_good(entry: &BoardEntry) -> bool
     ensures { result ≡ is_good (listed_of entry.now) }
 {
     entry.board.is_ok()
 }
 
 /// Appends the line of totals.
-fn put_totals(text: &mut Text, levels: usize, good: usize) -> Result<(), AllocError>
+pub(crate) fn put_totals(text: &mut Text, levels: usize, good: usize) -> Result<(), AllocError>
     ensures { OnOk result
         (text.new ≡ text.old ++ line (decimal levels ++ codes " levels, " ++ decimal good ++ codes " good")) }
 {

@@ -67,7 +67,12 @@ fn put_row(text: &mut Text, row: &[u8]) -> Result<(), AllocError>
 }
 
 /// Appends `rows` rows of `cols` marks each.
-fn put_map(text: &mut Text, rows: usize, cols: usize, marks: &[u8]) -> Result<(), AllocError>
+pub(crate) fn put_map(
+    text: &mut Text,
+    rows: usize,
+    cols: usize,
+    marks: &[u8],
+) -> Result<(), AllocError>
     ensures { OnOk result (text.new ≡ text.old ++ flat_map marked_row (rows_from rows cols marks.now)) }
 {
     let mut rest = marks;

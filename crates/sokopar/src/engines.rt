@@ -2,7 +2,7 @@ ghost use Rattle.std.specs.Prelude.{◌≡◌, ◌≤◌};
 ghost use Rattle.crew.specs.Configured.{IsWithinLimits};
 ghost use Rattle.sokopar.specs.DeadMap.{IsDeadReport};
 ghost use Rattle.sokopar.specs.OneReport.{IsOnlySolveReport};
-ghost use Rattle.sokopar.specs.Report.{IsCheckReport, IsReplayReport, IsShowReport};
+ghost use Rattle.sokopar.specs.Report.{IsCheckReport, IsReplayReport, IsShowReport, Written};
 ghost use Rattle.sokopar.specs.Runs.{Runs, RunsInTwo};
 
 use crate::check::check_report;
@@ -113,18 +113,24 @@ pub fn run_solve<R: Threads + Wait + Sync, S: Source, K: Sink>(
     ensures { Runs (IsOnlySolveReport config.cap config.limit number) (S.seen source.old) (S.seen source.new)
         (K.seen sink.old) (K.seen sink.new) result }
 {
-    let request = SolveRequest { number, config };
+    let request = SolveRequest {
+        number,
+        config,
+        lurd: false,
+    };
     run_solve_with(rt, alloc, source, request, &Free, sink)
 }
 
-/// The level for [`run_solve_with`], counted from 1, and the configuration of the search.
+/// The level for [`run_solve_with`], counted from 1, the configuration of the search, and whether it writes only the
+/// solution, without the first line of its report.
 #[derive(Clone, Copy, PartialEq, Eq, Debug)]
 pub struct SolveRequest {
     pub number: u32,
     pub config: Config,
+    pub lurd: bool,
 }
 
-#[tactic(auto, using(crate::proofs::Reading::stops_after))]
+#[tactic(auto, using(crate::proofs::Reading::stops_after, crate::proofs::Written::run_written))]
 /// Solves a level as [`run_solve`] does, and calls a gate after each event of a worker: the gate decides whether that
 /// worker goes on. The report is the same for every gate.
 pub fn run_solve_with<R: Threads + Wait + Sync, S: Source, G: Gate + Sync, K: Sink>(
@@ -137,12 +143,15 @@ pub fn run_solve_with<R: Threads + Wait + Sync, S: Source, G: Gate + Sync, K: Si
 ) -> Result<u8, RunFault>
     requires number { 1 ≤ request.number }
     requires limits { IsWithinLimits request.config }
-    ensures { Runs (IsOnlySolveReport request.config.cap request.config.limit request.number) (S.seen source.old)
-        (S.seen source.new) (K.seen sink.old)
-        (K.seen sink.new) result }
+    ensures { Runs (Written request.lurd (IsOnlySolveReport request.config.cap request.config.limit request.number))
+        (S.seen source.old) (S.seen source.new) (K.seen sink.old) (K.seen sink.new) result }
 {
-    let SolveRequest { number, config } = request;
+    let SolveRequest {
+        number,
+        config,
+        lurd,
+    } = request;
     let bytes = read_whole(alloc, source)?;
     let report = solve_in(rt, alloc, bytes.as_slice(), number, config, gate)?;
-    report.send(sink)
+    report.send_as(lurd, sink)
 }

@@ -1,13 +1,14 @@
-ghost use Rattle.std.specs.Prelude.{◌≡◌, ◌++◌, OnOk, IfOk, Ok};
-ghost use Rattle.sokopar.specs.Collection.{IsFinding, finding_words, solution_words};
+ghost use Rattle.std.specs.Prelude.{◌≡◌, ◌++◌, OnOk, Ok};
+ghost use Rattle.sokopar.specs.Collection.{IsFinding, finding_words, kind_of, solution_words, starved_words};
 
 use crate::best::put_outcome;
 use crate::check::put_fault;
 use crate::outcome::{BestOutcome, search_best};
 use crate::proving::SearchConfig;
+use crate::reported::Kind;
 use crate::text::Text;
 use grid::{Level, LevelFault};
-use prover::SearchFault;
+use prover::{Progress, SearchFault};
 use std::alloc::{AllocError, Global};
 use std::thread::Threads;
 
@@ -18,39 +19,66 @@ pub enum Finding {
     Searched(BestOutcome),
     /// The level has more boxes than [`MAX_BOXES`](grid::MAX_BOXES).
     TooManyBoxes,
+    /// The search ran out of memory; every solution has at least this many pushes.
+    OutOfMemory { at_least: u32 },
     /// The board is no level.
     Faulty(LevelFault),
 }
 
-#[tactic(auto, using(crate::proofs::Judging::found_on))]
+impl Finding {
+    /// How the totals count the level.
+    pub(crate) fn kind(&self) -> Kind
+        ensures { result ≡ kind_of self.now }
+    {
+        match self {
+            Finding::Searched(BestOutcome::Least(best)) => {
+                if best.claim.is_open() {
+                    Kind::Open
+                } else {
+                    Kind::Optimal
+                }
+            }
+            Finding::Searched(BestOutcome::NoneWithin) => Kind::Unsolved,
+            Finding::Searched(BestOutcome::Unsolvable) => Kind::Unsolved,
+            Finding::Searched(BestOutcome::Limit { .. }) => Kind::Open,
+            Finding::TooManyBoxes => Kind::NotJudged,
+            Finding::OutOfMemory { .. } => Kind::OutOfMemory,
+            Finding::Faulty(_) => Kind::NotJudged,
+        }
+    }
+}
+
+#[tactic(auto, using(crate::proofs::Judging::found_on, crate::proofs::Judging::of_search_fault))]
 /// What is found of a lawful level.
-fn find_on<R: Threads + Sync>(
+fn find_on<R: Threads + Sync, P: Progress>(
     rt: &R,
     alloc: Global,
     level: &Level,
     config: SearchConfig,
-) -> Result<Finding, AllocError>
-    ensures { IfOk result (λ finding. IsFinding config.moves config.cap config.limit (Ok level.now) finding) }
+    progress: &mut P,
+) -> Finding
+    ensures { IsFinding config.moves config.cap config.limit (Ok level.now) result }
 {
-    match search_best(rt, alloc, level, config) {
-        Ok(outcome) => Ok(Finding::Searched(outcome)),
-        Err(SearchFault::TooManyBoxes) => Ok(Finding::TooManyBoxes),
-        Err(SearchFault::OutOfMemory) => Err(AllocError),
+    match search_best(rt, alloc, level, config, progress) {
+        Ok(outcome) => Finding::Searched(outcome),
+        Err(SearchFault::TooManyBoxes) => Finding::TooManyBoxes,
+        Err(SearchFault::OutOfMemory { at_least }) => Finding::OutOfMemory { at_least },
     }
 }
 
 /// What is found of a board.
-pub(crate) fn find<R: Threads + Sync>(
+pub(crate) fn find<R: Threads + Sync, P: Progress>(
     rt: &R,
     alloc: Global,
     board: &Result<Level, LevelFault>,
     config: SearchConfig,
-) -> Result<Finding, AllocError>
-    ensures { IfOk result (λ finding. IsFinding config.moves config.cap config.limit board.now finding) }
+    progress: &mut P,
+) -> Finding
+    ensures { IsFinding config.moves config.cap config.limit board.now result }
 {
     match board {
-        Ok(level) => find_on(rt, alloc, level, config),
-        Err(fault) => Ok(Finding::Faulty(*fault)),
+        Ok(level) => find_on(rt, alloc, level, config, progress),
+        Err(fault) => Finding::Faulty(*fault),
     }
 }
 
@@ -69,6 +97,15 @@ fn put_solution(text: &mut Text, outcome: &BestOutcome) -> Result<(), AllocError
     }
 }
 
+/// Appends that a search ran out of memory; every solution has at least `bound` pushes.
+fn put_starved(text: &mut Text, bound: u32) -> Result<(), AllocError>
+    ensures { OnOk result (text.new ≡ text.old ++ starved_words bound) }
+{
+    text.put(b"out of memory, at least ")?;
+    text.put_number(bound as usize)?;
+    text.put(b" pushes")
+}
+
 /// Appends a finding in words.
 pub(crate) fn put_finding(
     text: &mut Text,
@@ -83,6 +120,7 @@ pub(crate) fn put_finding(
             put_solution(text, outcome)
         }
         Finding::TooManyBoxes => text.put(b"too many boxes"),
+        Finding::OutOfMemory { at_least } => put_starved(text, *at_least),
         Finding::Faulty(fault) => put_fault(text, *fault),
     }
 }

@@ -22,36 +22,54 @@ mod best;
 mod check;
 mod collection;
 mod dead;
+mod doomed;
 mod engines;
+mod exits;
+mod explain;
+mod explaining;
 mod fault;
+mod faulty;
 mod finding;
+mod folder;
+mod given;
+mod judge;
 mod laws;
+mod levels;
 mod listing;
 mod moves;
 mod outcome;
 mod prove;
 mod proving;
 mod reads;
+mod remark;
 mod replay;
 mod report;
+mod reported;
+mod sentences;
 mod show;
 mod sink;
 mod solve;
 mod source;
+mod table;
 mod text;
 mod totals;
 mod trail;
+mod watch;
 mod writes;
 
 pub use engines::{
     SolveRequest, run_check, run_dead, run_replay, run_show, run_solve, run_solve_with,
 };
+pub use explaining::run_explain;
 pub use fault::RunFault;
+pub use folder::Folder;
 pub use laws::{one_report, printed_solution_replays, solution_replays};
+pub use prover::Progress;
 pub use proving::{
-    BestRequest, CollectionRequest, ProveRequest, SearchConfig, run_best, run_best_collection,
-    run_prove,
+    BestRequest, CollectionRequest, ProveRequest, SearchConfig, SolutionsRequest, run_best,
+    run_best_collection, run_prove, run_prove_collection,
 };
 pub use sink::{Sink, Writer};
 pub use source::{Reader, Source};
 pub use trail::Failed;
+pub use watch::{Unwatched, Watch};

@@ -5,6 +5,7 @@ ghost use Rattle.lurd.specs.Verdict.{IsVerdict};
 ghost use Rattle.lurd.specs.declared.verdict.Verdict.TheVariants.{Solved};
 ghost use Rattle.prover.specs.Fewest.{NoneHasFewer};
 ghost use Rattle.prover.specs.Parity.{SomeHas};
+ghost use Rattle.shortest.specs.Improving.{IsNoWorse};
 ghost use Rattle.shortest.specs.Outcomes.{IsMovesOutcome};
 ghost use Rattle.sokopar.specs.Moves.{IsBestSolution, best_words, claim_status, claimed_words, is_open, optimal_words};
 ghost use Rattle.sokopar.specs.inside.Parts.{fewest_words};
@@ -14,9 +15,8 @@ use crate::solve::put_limit;
 use crate::text::Text;
 use grid::{Level, MAX_BOXES, Moves};
 use prover::SearchFault;
-use shortest::{MovesOutcome, improve, search_moves};
+use shortest::{Aim, MovesOutcome, improve, search_moves};
 use std::alloc::{AllocError, Global};
-use std::thread::Threads;
 
 /// What is known of the moves of a solution with the fewest pushes.
 #[derive(Clone, Copy, PartialEq, Eq, Debug, Drop)]
@@ -75,15 +75,38 @@ pub(crate) fn search_fewest(
 {
     match search_moves(alloc, level, pushes, limit) {
         Ok(outcome) => Ok(outcome),
-        Err(SearchFault::OutOfMemory) => Err(AllocError),
+        Err(SearchFault::OutOfMemory { .. }) => Err(AllocError),
         Err(SearchFault::TooManyBoxes) => unreachable!(),
     }
 }
 
+/// How many states a search near a solution lists in all, under a limit of positions of the search before it.
+fn states_near(limit: u32) -> usize {
+    (limit / 10).max(50_000) as usize
+}
+
+/// The moves, or better ones that a search near them finds, under a limit of positions of the search before it.
+pub(crate) fn improved(alloc: Global, level: &Level, moves: Moves, aim: Aim, limit: u32) -> Moves
+    ensures { IsNoWorse level.now moves result }
+{
+    let mut moves = moves;
+    // If it runs out of memory, the moves are the best ones so far.
+    let _ = improve(alloc, level, &mut moves, aim, states_near(limit));
+    moves
+}
+
+/// The solution, or one with as many pushes and fewer moves that a search near it finds.
+fn with_fewer(alloc: Global, level: &Level, moves: Moves, pushes: u32, limit: u32) -> Moves
+    requires solved { IsVerdict level.now moves (Solved pushes (length moves)) }
+    requires fewest { NoneHasFewer level.now pushes }
+    ensures { IsVerdict level.now result (Solved pushes (length result)) }
+{
+    improved(alloc, level, moves, Aim::FewerMoves, limit)
+}
+
 /// The solution to report, given one with the fewest pushes. If the fewest moves are wanted, it looks for them. If they
 /// are not, or that search ends at its limit, it saves moves of the given solution where it can.
-pub(crate) fn best_solution<R: Threads + Sync>(
-    rt: &R,
+pub(crate) fn best_solution(
     alloc: Global,
     level: &Level,
     moves: Moves,
@@ -99,7 +122,7 @@ pub(crate) fn best_solution<R: Threads + Sync>(
 {
     let claim = MovesClaim::Counted;
     if !wanted {
-        let moves = improve(rt, alloc, level, moves, pushes as usize)?;
+        let moves = with_fewer(alloc, level, moves, pushes, limit);
         return Ok(BestSolution {
             moves,
             pushes,
@@ -118,7 +141,7 @@ pub(crate) fn best_solution<R: Threads + Sync>(
         }
         MovesOutcome::Limit => {
             let claim = MovesClaim::Open;
-            let moves = improve(rt, alloc, level, moves, pushes as usize)?;
+            let moves = with_fewer(alloc, level, moves, pushes, limit);
             Ok(BestSolution {
                 moves,
                 pushes,

@@ -1,14 +1,15 @@
 //! The search of `best` in a level.
-ghost use Rattle.std.specs.Prelude.{◌≡◌, ◌⊎◌, ◌<◌, ◌≤◌, IfErr, IfOk, OnOk};
+ghost use Rattle.std.specs.Prelude.{◌≤◌, ℕ, Option, IfErr, IfOk, OnOk};
+ghost use Rattle.grid.specs.Board.{Board};
 ghost use Rattle.grid.specs.Lawful.{box_count};
-ghost use Rattle.prover.specs.Outcomes.{IsOutcome};
-ghost use Rattle.prover.specs.declared.outcome.SearchFault.{SearchFault};
+ghost use Rattle.prover.specs.Fewest.{NoneHasFewer};
+ghost use Rattle.prover.specs.Outcomes.{IsFault, IsOutcome};
 ghost use Rattle.sokopar.specs.Best.{Finds};
 
 use crate::moves::{BestSolution, best_solution};
 use crate::proving::SearchConfig;
 use grid::{Level, MAX_BOXES};
-use prover::{Outcome, SearchFault};
+use prover::{Outcome, Progress, SearchFault};
 use std::alloc::{AllocError, Global};
 use std::thread::Threads;
 
@@ -26,8 +27,7 @@ pub enum BestOutcome {
 }
 
 /// The outcome of a search for the fewest pushes, with the fewest moves if they are wanted.
-fn outcome_of<R: Threads + Sync>(
-    rt: &R,
+fn outcome_of(
     alloc: Global,
     level: &Level,
     outcome: Outcome,
@@ -39,7 +39,7 @@ fn outcome_of<R: Threads + Sync>(
 {
     match outcome {
         Outcome::Least { moves, pushes } => {
-            let best = best_solution(rt, alloc, level, moves, pushes, config.moves, config.limit)?;
+            let best = best_solution(alloc, level, moves, pushes, config.moves, config.limit)?;
             Ok(BestOutcome::Least(best))
         }
         Outcome::NoneWithin => Ok(BestOutcome::NoneWithin),
@@ -48,18 +48,32 @@ fn outcome_of<R: Threads + Sync>(
     }
 }
 
+#[tactic(auto, using(crate::proofs::Judging::bounds_of))]
+/// A number of pushes that every solution has at least.
+fn bound_of(outcome: &Outcome) -> u32
+    ensures { (board : Board) (cap : Option ℕ) (limit : ℕ) → IsOutcome board cap limit outcome.now →
+        NoneHasFewer board result }
+{
+    match outcome {
+        Outcome::Least { pushes, .. } => *pushes,
+        Outcome::Limit { at_least } => *at_least,
+        Outcome::NoneWithin => 0,
+        Outcome::Unsolvable => 0,
+    }
+}
+
 /// Searches a level for a solution with the fewest pushes and, if the settings say so, for the fewest moves of these.
 /// Fails as [`prover::search`] does.
-pub(crate) fn search_best<R: Threads + Sync>(
+pub(crate) fn search_best<R: Threads + Sync, P: Progress>(
     rt: &R,
     alloc: Global,
     level: &Level,
     config: SearchConfig,
+    progress: &mut P,
 ) -> Result<BestOutcome, SearchFault>
     ensures outcome { IfOk result (λ found. Finds config.moves config.cap config.limit level.now found) }
     ensures few { OnOk result (box_count level.now ≤ MAX_BOXES) }
-    ensures fault { IfErr result (λ fault. (fault ≡ SearchFault.OutOfMemory) ⊎
-        ((fault ≡ SearchFault.TooManyBoxes) × (MAX_BOXES < box_count level.now))) }
+    ensures fault { IfErr result (λ fault. IsFault level.now fault) }
 {
     let SearchConfig {
         workers,
@@ -67,6 +81,10 @@ pub(crate) fn search_best<R: Threads + Sync>(
         cap,
         ..
     } = config;
-    let outcome = prover::search(rt, alloc, level, cap, limit, workers)?;
-    Ok(outcome_of(rt, alloc, level, outcome, config)?)
+    let outcome = prover::search(rt, alloc, level, cap, limit, workers, progress)?;
+    let at_least = bound_of(&outcome);
+    match outcome_of(alloc, level, outcome, config) {
+        Ok(found) => Ok(found),
+        Err(_) => Err(SearchFault::OutOfMemory { at_least }),
+    }
 }

@@ -4,16 +4,21 @@
 ghost use Rattle.std.specs.Prelude.{◌≤◌};
 ghost use Rattle.sokopar.specs.Best.{IsBestReport};
 ghost use Rattle.sokopar.specs.Collection.{BeginsCollectionReport, IsCollectionReport};
+ghost use Rattle.sokopar.specs.Folder.{BeginsSolutionsReport, IsSolutionsReport};
 ghost use Rattle.sokopar.specs.Proving.{IsProveReport};
+ghost use Rattle.sokopar.specs.Report.{Written, WrittenOfTwo};
 ghost use Rattle.sokopar.specs.Runs.{Runs, RunsByLine, RunsInTwo};
 
 use crate::best::best_in;
 use crate::collection::send_collection;
 use crate::fault::RunFault;
+use crate::folder::Folder;
+use crate::given::send_solutions;
 use crate::prove::prove_in;
 use crate::reads::read_whole;
 use crate::sink::Sink;
 use crate::source::Source;
+use crate::watch::Watch;
 use std::alloc::Global;
 use std::thread::Threads;
 
@@ -31,33 +36,48 @@ pub struct SearchConfig {
     pub moves: bool,
 }
 
-/// The level for [`run_best`], counted from 1, and the bounds of the search.
+/// The level for [`run_best`], counted from 1, the bounds of the search, and whether it writes only the solution,
+/// without the first line of its report.
 #[derive(Clone, Copy, PartialEq, Eq, Debug)]
 pub struct BestRequest {
     pub number: u32,
     pub config: SearchConfig,
+    pub lurd: bool,
 }
 
-/// The first and the last level for [`run_best_collection`], counted from 1, and the bounds of the search of each.
-/// Levels that the collection lacks are left out.
+/// The first and the last level for [`run_best_collection`], counted from 1, whether it writes a table, and the bounds
+/// of the search of each level. Levels that the collection lacks are left out.
 #[derive(Clone, Copy, PartialEq, Eq, Debug)]
 pub struct CollectionRequest {
     pub from: u32,
     pub to: u32,
+    pub table: bool,
     pub config: SearchConfig,
 }
 
-/// The level for [`run_prove`], counted from 1, the limit of positions, the number of workers, and whether it also
-/// looks for the fewest moves, as for [`run_best`].
+/// The level for [`run_prove`], counted from 1, the limit of positions, the number of workers, whether it also looks
+/// for the fewest moves, and whether it writes only a solution, as for [`run_best`].
 #[derive(Clone, Copy, PartialEq, Eq, Debug)]
 pub struct ProveRequest {
     pub number: u32,
     pub workers: u8,
     pub limit: u32,
     pub moves: bool,
+    pub lurd: bool,
 }
 
-#[tactic(auto, using(crate::proofs::Reading::stops_after))]
+/// The first and the last level for [`run_prove_collection`], counted from 1, and the settings of each search, as for
+/// [`run_prove`].
+#[derive(Clone, Copy, PartialEq, Eq, Debug)]
+pub struct SolutionsRequest {
+    pub from: u32,
+    pub to: u32,
+    pub workers: u8,
+    pub limit: u32,
+    pub moves: bool,
+}
+
+#[tactic(auto, using(crate::proofs::Reading::stops_after, crate::proofs::Written::run_written))]
 /// Finds a solution with the fewest pushes of a level of a collection. Writes its numbers of pushes and moves, and the
 /// solution as LURD text; or that the level has no solution, or none with as few pushes as the cap; or that the search
 /// found more positions than the limit, and a lower bound on the pushes of every solution. Returns the exit status: 0
@@ -65,72 +85,114 @@ pub struct ProveRequest {
 ///
 /// If the request wants the fewest moves, the solution has, of all with the fewest pushes, the fewest moves. If the
 /// search for these ends at its limit, it writes another solution with the fewest pushes, says so, and returns 4.
-pub fn run_best<R: Threads + Sync, S: Source, K: Sink>(
+pub fn run_best<R: Threads + Sync, S: Source, P: Watch, K: Sink>(
     rt: &R,
     alloc: Global,
     source: &mut S,
     request: BestRequest,
+    watch: &mut P,
     sink: &mut K,
 ) -> Result<u8, RunFault>
     requires { 1 ≤ request.number }
-    ensures { Runs (IsBestReport request.config.moves request.config.cap request.config.limit request.number)
+    ensures { Runs
+        (Written request.lurd
+        (IsBestReport request.config.moves request.config.cap request.config.limit request.number))
         (S.seen source.old) (S.seen source.new) (K.seen sink.old) (K.seen sink.new) result }
 {
-    let BestRequest { number, config } = request;
+    let BestRequest {
+        number,
+        config,
+        lurd,
+    } = request;
     let bytes = read_whole(alloc, source)?;
-    let report = best_in(rt, alloc, bytes.as_slice(), number, config)?;
-    report.send(sink)
+    watch.begin(number);
+    let report = best_in(rt, alloc, bytes.as_slice(), number, config, watch)?;
+    report.send_as(lurd, sink)
 }
 
 #[tactic(auto, using(crate::proofs::ByLine::runs_by_line, crate::proofs::ByLine::stopped_reading))]
 /// Finds a solution with the fewest pushes of each level of a part of a collection, one level after the other. Writes a
 /// line for each level before it goes on to the next one, and the totals. Returns the exit status: 0 if it finds a
-/// solution for each level and no search ended at its limit, else 4 if one did, else 1. The totals count a level as
-/// open if a search ended at its limit, even if it has a solution with the fewest pushes.
+/// solution for each level and no search ended at its limit, else 5 if a search ran out of memory, else 4 if one ended
+/// at its limit, else 1. The totals count a level as open if a search ended at its limit, even if it has a solution
+/// with the fewest pushes, or ran out of memory. If no level has a number of at least `from`, it writes that there is
+/// no such level, and returns 1.
+///
+/// A table has a head line, a line with the columns of each level, and no totals.
 ///
 /// Fails as [`run_check`](crate::run_check) does, except that it may run out of memory after some lines; then it has
-/// written these lines whole. If a write fails, it has written all lines before whole, and a beginning of this one.
-pub fn run_best_collection<R: Threads + Sync, S: Source, K: Sink>(
+/// written these lines whole. A search that runs out of memory only ends its level. If a write fails, it has written
+/// all lines before whole, and a beginning of this one.
+pub fn run_best_collection<R: Threads + Sync, S: Source, P: Watch, K: Sink>(
     rt: &R,
     alloc: Global,
     source: &mut S,
     request: CollectionRequest,
+    watch: &mut P,
     sink: &mut K,
 ) -> Result<u8, RunFault>
-    ensures { RunsByLine
-        (IsCollectionReport request.config.moves request.config.cap request.config.limit request.from request.to)
-        (BeginsCollectionReport request.config.moves request.config.cap request.config.limit request.from request.to)
+    ensures { RunsByLine (IsCollectionReport request) (BeginsCollectionReport request)
         (S.seen source.old) (S.seen source.new) (K.seen sink.old) (K.seen sink.new) result }
 {
     let bytes = read_whole(alloc, source)?;
-    send_collection(rt, alloc, bytes.as_slice(), request, sink)
+    send_collection(rt, alloc, bytes.as_slice(), request, watch, sink)
 }
 
-#[tactic(auto, using(crate::proofs::Reading::stops_after))]
+#[tactic(auto, using(crate::proofs::Reading::stops_after, crate::proofs::Written::run_written_of_two))]
 /// Proves that a solution in LURD text has the fewest pushes of all solutions of a level of a collection. Otherwise it
 /// writes a solution with the fewest pushes; or that the search found more positions than the limit, and a lower bound
-/// on the pushes of every solution. Returns the exit status: 0 if the solution has the fewest pushes, 4 at the limit,
-/// otherwise 1. If the text does not solve the level, it writes what [`run_replay`](crate::run_replay) writes. It reads
+/// on the pushes of every solution, with a solution that has fewer pushes than the given one if it finds one near it.
+/// Returns the exit status: 0 if the solution has the fewest pushes, 4 at the limit without a better solution, otherwise
+/// 1. If the text does not solve the level, it writes what [`run_replay`](crate::run_replay) writes. It reads
 /// the collection first, and the solution only if the level is lawful. The faults are those of
 /// [`run_check`](crate::run_check).
 ///
 /// If the request wants the fewest moves, it also proves that no solution with as few pushes has fewer moves. Otherwise
 /// it writes one with the fewest pushes and, of these, the fewest moves. If the search for these ends at its limit, it
-/// says so. It returns 4 then, or 1 if the given solution has more pushes than the fewest.
-pub fn run_prove<R: Threads + Sync, S: Source, T: Source, K: Sink>(
+/// says so. It returns 4 then, or 1 if it has a solution with fewer pushes, or with as many and fewer moves.
+pub fn run_prove<R: Threads + Sync, S: Source, T: Source, P: Watch, K: Sink>(
     rt: &R,
     alloc: Global,
     source: &mut S,
     solution: &mut T,
     request: ProveRequest,
+    watch: &mut P,
     sink: &mut K,
 ) -> Result<u8, RunFault>
     requires { 1 ≤ request.number }
-    ensures { RunsInTwo (IsProveReport request.moves request.limit request.number) request.number
+    ensures { RunsInTwo
+        (WrittenOfTwo request.lurd (IsProveReport request.moves request.limit request.number)) request.number
         (S.seen source.old) (S.seen source.new) (T.seen solution.old)
         (T.seen solution.new) (K.seen sink.old) (K.seen sink.new) result }
 {
     let bytes = read_whole(alloc, source)?;
-    let report = prove_in(rt, alloc, bytes.as_slice(), request, solution)?;
-    report.send(sink)
+    watch.begin(request.number);
+    let report = prove_in(rt, alloc, bytes.as_slice(), request, solution, watch)?;
+    report.send_as(request.lurd, sink)
+}
+
+#[tactic(auto, using(crate::proofs::ByLine::runs_by_line, crate::proofs::ByLine::stopped_reading))]
+/// Proves the solutions of a folder, one after the other: for each level of a part of a collection of which the folder
+/// has one, it writes the report of [`run_prove`] in one line before it goes on to the next level, and then the totals.
+/// A solution that cannot be read, or has more than [`MAX_FILE`](xsb::MAX_FILE) bytes, and one whose search runs out of
+/// memory have a line, too. Returns the exit status: 0 if all solutions are optimal, else 5 if a search ran out of
+/// memory, else 3 if a solution cannot be read, else 4 if a search ended at its limit, else 1. If no level has a number
+/// of at least `from`, it writes that there is no such level, and returns 1.
+///
+/// It fails as [`run_best_collection`] does.
+pub fn run_prove_collection<R: Threads + Sync, S: Source, D: Folder, P: Watch, K: Sink>(
+    rt: &R,
+    alloc: Global,
+    source: &mut S,
+    folder: &D,
+    request: SolutionsRequest,
+    watch: &mut P,
+    sink: &mut K,
+) -> Result<u8, RunFault>
+    ensures { RunsByLine (IsSolutionsReport (D.opened folder.now) D.File.seen request)
+        (BeginsSolutionsReport (D.opened folder.now) D.File.seen request)
+        (S.seen source.old) (S.seen source.new) (K.seen sink.old) (K.seen sink.new) result }
+{
+    let bytes = read_whole(alloc, source)?;
+    send_solutions(rt, alloc, bytes.as_slice(), folder, request, watch, sink)
 }

@@ -1,7 +1,7 @@
 ghost use Rattle.std.specs.Prelude.{◌≡◌, Result, Ok, Err};
 ghost use Rattle.sokopar.specs.Ends.{Seen};
-ghost use Rattle.sokopar.specs.Report.{Report as View};
-ghost use Rattle.sokopar.specs.inside.Sending.{Sends};
+ghost use Rattle.sokopar.specs.Report.{Report as View, after_line};
+ghost use Rattle.sokopar.specs.inside.Sending.{Sends, as_written};
 
 use crate::fault::RunFault;
 use crate::sink::Sink;
@@ -32,13 +32,59 @@ impl Report {
         Report { text, status }
     }
 
+    /// The report's text.
+    pub(crate) fn text(&self) -> &[u8]
+        ensures { result.now ≡ self.now.text }
+    {
+        self.text.as_slice()
+    }
+
+    /// The report's status.
+    pub(crate) fn status(&self) -> u8
+        ensures { result ≡ self.now.status }
+    {
+        self.status
+    }
+
     /// Writes the report, and returns its status.
     pub(crate) fn send<K: Sink>(&self, sink: &mut K) -> Result<u8, RunFault>
         ensures { Sends self.now (K.seen sink.old) (K.seen sink.new) result }
     {
-        match write_whole(sink, self.text.as_slice()) {
-            Ok(()) => Ok(self.status),
-            Err(_) => Err(RunFault::Write),
+        send_text(self.text.as_slice(), self.status, sink)
+    }
+
+    /// Writes the report, with `lurd` without its first line, and returns its status.
+    pub(crate) fn send_as<K: Sink>(&self, lurd: bool, sink: &mut K) -> Result<u8, RunFault>
+        ensures { Sends (as_written lurd self.now) (K.seen sink.old) (K.seen sink.new) result }
+    {
+        if lurd {
+            send_text(after_line(self.text.as_slice()), self.status, sink)
+        } else {
+            self.send(sink)
         }
+    }
+}
+
+/// The bytes after the first line of a text.
+fn after_line(text: &[u8]) -> &[u8]
+    ensures { result.now ≡ after_line text.now }
+{
+    let mut rest = text;
+    while let [byte, others @ ..] = rest {
+        if *byte == b'\n' {
+            return others;
+        }
+        rest = others;
+    }
+    rest
+}
+
+/// Writes the text of a report, and returns its status.
+fn send_text<K: Sink>(text: &[u8], status: u8, sink: &mut K) -> Result<u8, RunFault>
+    ensures { Sends (record { text = text.now; status = status }) (K.seen sink.old) (K.seen sink.new) result }
+{
+    match write_whole(sink, text) {
+        Ok(()) => Ok(status),
+        Err(_) => Err(RunFault::Write),
     }
 }

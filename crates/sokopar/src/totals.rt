@@ -1,25 +1,29 @@
 ghost use Rattle.std.specs.Prelude.{◌≡◌, ◌++◌, OnOk};
 ghost use Rattle.sokopar.specs.Collection.{unsolved_words};
-ghost use Rattle.sokopar.specs.inside.Totals.{AreFewLevels, counted, status_of, totals_of, line_of_totals};
+ghost use Rattle.sokopar.specs.Folder.{count_words};
+ghost use Rattle.sokopar.specs.inside.Totals.{AreFewLevels, counted, line_of_solutions, line_of_totals, status_of, totals_of};
 
 use crate::best::put_none_within;
-use crate::finding::Finding;
-use crate::outcome::BestOutcome;
+use crate::reported::Kind;
 use crate::text::Text;
 use std::alloc::AllocError;
 
-/// How many levels were reported, and how many of them have a finding of each kind.
+/// How many levels were reported, and how many of them have each kind.
 #[derive(Clone, Copy)]
 pub(crate) struct Totals {
     pub(crate) levels: usize,
-    /// A solution with the fewest pushes was found, and no search ended at its limit.
     pub(crate) optimal: usize,
-    /// There is no solution, or none within the cap.
     pub(crate) unsolved: usize,
-    /// A search ended at its limit.
+    pub(crate) beaten: usize,
+    /// A search ended at its limit or ran out of memory.
     pub(crate) undecided: usize,
-    /// The level has a fault or too many boxes.
+    /// A search ran out of memory.
+    pub(crate) out_of_memory: usize,
+    /// There was nothing to search for.
     pub(crate) unjudged: usize,
+    /// A given solution cannot be read.
+    pub(crate) unread: usize,
+    pub(crate) missing: usize,
 }
 
 impl Totals {
@@ -33,42 +37,55 @@ impl Totals {
             levels: 0,
             optimal: 0,
             unsolved: 0,
+            beaten: 0,
             undecided: 0,
+            out_of_memory: 0,
             unjudged: 0,
+            unread: 0,
+            missing: 0,
         }
     }
 
     /// The totals with one level more.
-    pub(crate) fn with(self, finding: &Finding) -> Totals
+    pub(crate) fn with(self, kind: Kind) -> Totals
         requires { AreFewLevels self }
-        ensures { result ≡ counted self finding.now }
+        ensures { result ≡ counted self kind }
     {
         let levels = self.levels + 1;
         let mut totals = Totals { levels, ..self };
-        match finding {
-            Finding::Searched(BestOutcome::Least(best)) => {
-                if best.claim.is_open() {
-                    totals.undecided += 1;
-                } else {
-                    totals.optimal += 1;
-                }
+        match kind {
+            Kind::Optimal => totals.optimal += 1,
+            Kind::Unsolved => totals.unsolved += 1,
+            Kind::Beaten => totals.beaten += 1,
+            Kind::Open => totals.undecided += 1,
+            Kind::OutOfMemory => {
+                totals.undecided += 1;
+                totals.out_of_memory += 1;
             }
-            Finding::Searched(BestOutcome::NoneWithin) => totals.unsolved += 1,
-            Finding::Searched(BestOutcome::Unsolvable) => totals.unsolved += 1,
-            Finding::Searched(BestOutcome::Limit { .. }) => totals.undecided += 1,
-            Finding::TooManyBoxes => totals.unjudged += 1,
-            Finding::Faulty(_) => totals.unjudged += 1,
+            Kind::NotJudged => totals.unjudged += 1,
+            Kind::CannotRead => {
+                totals.unjudged += 1;
+                totals.unread += 1;
+            }
+            Kind::Missing => totals.missing += 1,
         }
         totals
     }
 
-    /// The exit status: 0 if each level has a solution with the fewest pushes and no search ended at its limit, else 4
-    /// if one did, else 1.
+    /// The exit status: 0 if all levels are optimal, except those without a given solution; else 5 if a search ran out
+    /// of memory, else 3 if a given solution cannot be read, else 4 if a search ended at its limit, else 1.
     pub(crate) fn status(self) -> u8
+        requires { AreFewLevels self }
         ensures { result ≡ status_of self }
     {
-        if self.optimal == self.levels {
+        if self.optimal + self.missing == self.levels {
             return 0;
+        }
+        if self.out_of_memory > 0 {
+            return 5;
+        }
+        if self.unread > 0 {
+            return 3;
         }
         if self.undecided == 0 { 1 } else { 4 }
     }
@@ -104,4 +121,24 @@ pub(crate) fn put_totals(
     text.put(b" open, ")?;
     text.put_number(totals.unjudged)?;
     text.put(b" not judged\n")
+}
+
+/// Appends a number and what it counts.
+fn put_count(text: &mut Text, count: usize, words: &[u8]) -> Result<(), AllocError>
+    ensures { OnOk result (text.new ≡ text.old ++ count_words count words.now) }
+{
+    text.put_number(count)?;
+    text.put(words)
+}
+
+/// Appends the line of totals of the solutions of a folder.
+pub(crate) fn put_solutions(text: &mut Text, totals: Totals) -> Result<(), AllocError>
+    ensures { OnOk result (text.new ≡ text.old ++ line_of_solutions totals) }
+{
+    put_count(text, totals.levels, b" levels, ")?;
+    put_count(text, totals.optimal, b" optimal, ")?;
+    put_count(text, totals.beaten, b" beaten, ")?;
+    put_count(text, totals.undecided, b" open, ")?;
+    put_count(text, totals.unjudged, b" not judged, ")?;
+    put_count(text, totals.missing, b" without a solution\n")
 }

@@ -2,12 +2,9 @@ pub mod lemmas
 pub mod Counting
 pub mod Credits
 pub mod Each
-pub mod Existence
 pub mod Finishing
-pub mod LeastTexts
 pub mod Limits
 pub mod Looking
-pub mod NextLayers
 pub mod ReadingBack
 pub mod Solved
 pub mod Solving

@@ -11,7 +11,7 @@ use crate::answer::{Answer, SolveFault};
 use crate::ranks::{begin_each, close_rest, last_layer};
 use crate::search::Search;
 use grid::{Level, MAX_BOXES};
-use layers::{Book, Dealing, Problem};
+use layers::{Book, Problem};
 use std::alloc::{AllocError, Global};
 use std::sync::Arc;
 
@@ -54,18 +54,14 @@ fn search(
     search_by(alloc, &problem, limit)
 }
 
-// The same for a problem. Fails only if out of memory.
+// The answer that the layers of a problem give. Fails only if out of memory.
 fn search_by(alloc: Global, problem: &Arc<Problem>, limit: u32) -> Result<Answer, AllocError>
     requires limit { 1 ≤ limit }
     requires boxes { box_count (arc_value problem.now).board ≤ MAX_BOXES }
     ensures { IfOk result (λ answer. IsAnswer (arc_value problem.now) limit answer) }
 {
     let mut search = Search::new(alloc, problem, limit)?;
-    let alone = Dealing {
-        workers: 1,
-        shares: 1,
-    };
-    let mut books = search.new_books(alone)?;
+    let mut books = search.new_books(1, 1)?;
     iterate(alloc, &mut search, books.as_mut_slice())
 }
 

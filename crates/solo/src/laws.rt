@@ -24,13 +24,6 @@ pub fn an_answer_is_the_only_one()
         IsAnswer task limit b → a ≡ b }
 {}
 
-/// A level with its cap and a limit always has an answer: it is a contradiction that none fits. This is a law of the
-/// definitions, without regard to memory.
-pub fn an_answer_is_never_missing()
-    ensures { (task : Task) (limit : ℕ) → IsLevel task.board → ((answer : Answer) → ¬ (IsAnswer task limit answer)) →
-        ⊥ }
-{}
-
 /// The answer is `Limit` exactly if more positions than the limit are needed. A solvable level needs those of the
 /// layers up to the fewest pushes of a solution, an unsolvable one those of all layers.
 pub fn the_limit_is_passed_by_the_positions_needed()

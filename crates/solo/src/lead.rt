@@ -36,7 +36,8 @@ pub fn moves_to(
     play_pushes(alloc, layers[0].level(), pushes.as_slice(), scratch)
 }
 
-// The same for a layer, from the parents of earlier layers. Fails only if out of memory.
+// The play of [`moves_to`] to the position with a rank of a layer, from the parents of earlier layers. Fails only if
+// out of memory.
 pub(crate) fn moves_back(
     alloc: Global,
     trail: &[Parents],

@@ -22,7 +22,7 @@ use crate::lead::moves_back;
 use crate::rest::{do_rest_of, left_of};
 use area::Scratch;
 use grid::Square;
-use layers::{Book, BookFault, Dealing, Layer, Parents, Problem};
+use layers::{Book, BookFault, Layer, Parents, Problem};
 use std::alloc::{AllocError, Global};
 use std::marker::Model;
 use std::sync::Arc;
@@ -83,22 +83,23 @@ impl<'p> Search<'p> {
         })
     }
 
-    /// New books of all shares of the problem's positions, share 0 first, for the workers of `dealing`. The level has
-    /// at most [`MAX_BOXES`](grid::MAX_BOXES) boxes.
-    pub fn new_books(&mut self, dealing: Dealing) -> Result<Vec<Book>, AllocError>
+    /// New books of all `shares` shares of the problem's positions, share 0 first, for `workers` workers. The level
+    /// has at most [`MAX_BOXES`](grid::MAX_BOXES) boxes.
+    pub fn new_books(&mut self, workers: u8, shares: u8) -> Result<Vec<Book>, AllocError>
         requires boxes { box_count self.old.task.board ≤ MAX_BOXES }
         requires limit { 1 ≤ self.old.limit }
-        requires workers { (1 ≤ dealing.workers) × (dealing.workers ≤ MAX_WORKERS + 1) }
-        requires shares { (1 ≤ dealing.shares) × (dealing.shares ≤ MAX_SHARES) }
+        requires workers { (1 ≤ workers) × (workers ≤ MAX_WORKERS + 1) }
+        requires shares { (1 ≤ shares) × (shares ≤ MAX_SHARES) }
         ensures books { IfOk result
-            (λ books. AreNewShares self.old.task self.old.limit dealing.workers dealing.shares books.items) }
+            (λ books. AreNewShares self.old.task self.old.limit workers shares books.items) }
         ensures same { self.new ≡ self.old }
     {
         match Book::of_all_shares(
             self.alloc,
             self.problem,
             self.limit,
-            dealing,
+            workers,
+            shares,
             &mut self.scratch,
         ) {
             Ok(books) => Ok(books),

@@ -157,8 +157,8 @@ fn write_rows(low: &mut [u8], high: &mut [u8], boxes: &[Square], player: Square)
     write_high(high, boxes, player);
 }
 
-// The same for two rows of length `SHORT`. The loop's bound repeats this length, so that the compiler does not
-// vectorize the loop.
+// Writes the low and the high bytes of squares to two rows of `SHORT` zeros. The loop's bound repeats this length, so
+// that the compiler does not vectorize the loop.
 #[inline(always)]
 fn write_short(low: &mut [u8], high: &mut [u8], boxes: &[Square], player: Square)
     requires low { low.old ≡ padded SHORT [] }

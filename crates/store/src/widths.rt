@@ -12,7 +12,7 @@ pub(crate) const WIDE: usize = 27;
 
 pub(crate) const BROAD: usize = 35;
 
-// The same call on a table, whatever the width of its keys.
+// Makes a call on a table, whatever the width of its keys.
 macro_rules! in_each {
     ($tables:ident, $value:expr, $table:ident => $call:expr) => {
         match $value {

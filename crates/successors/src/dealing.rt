@@ -65,8 +65,8 @@ fn deal_all(shares: u8, sums: &[u32], rows: &mut [u8; ROWS], lens: &mut [u8; MAX
     }
 }
 
-// The same for two shares. It counts the successors of each share in a local variable, so that no count waits for the
-// one before it to be written and read.
+// Puts the place of each successor into the row of one of two shares. It counts the successors of each share in a local
+// variable, so that no count waits for the one before it to be written and read.
 fn deal_both(sums: &[u32], rows: &mut [u8; ROWS], lens: &mut [u8; MAX_SHARES as usize])
     requires few { length sums.now ≤ MOST_DEALT }
     ensures { IsDealt 2 rows.new lens.new sums.now }

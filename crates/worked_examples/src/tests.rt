@@ -1,6 +1,7 @@
 //! The engines over memory.
 mod failing;
 mod largest;
+mod levels;
 mod moves;
 mod once;
 mod passed;

@@ -79,7 +79,12 @@ fn texts_of_searches(rt: HostRuntime) {
     shows(&rt, alloc, SolveFault::BadConfig, outside);
     shows(&rt, alloc, SolveFault::OutOfMemory, "out of memory");
     shows(&rt, alloc, SearchFault::TooManyBoxes, "more than 64 boxes");
-    shows(&rt, alloc, SearchFault::OutOfMemory, "out of memory");
+    shows(
+        &rt,
+        alloc,
+        SearchFault::OutOfMemory { at_least: 0 },
+        "out of memory",
+    );
     shows(&rt, alloc, BookFault::TooManyBoxes, "more than 64 boxes");
     shows(&rt, alloc, BookFault::OutOfMemory, "out of memory");
     shows(

@@ -1,11 +1,12 @@
 -- A collection, as it is read board by board.
-use Rattle.std.proofs.Common.{◌≡◌, ℕ, suc, ◌+◌, ◌<◌, List, [], ◌∷◌, ◌++◌, length, flat_map, refl, sym, ap, ◌∙◌, arith, length-append, append_assoc, subst, Some}
+use Rattle.std.proofs.Common.{◌≡◌, ℕ, suc, ◌+◌, ◌<◌, ◌≤◌, List, [], ◌∷◌, ◌++◌, length, flat_map, refl, sym, ap, ◌∙◌, arith, length-append, append_assoc, subst, Some}
 use Rattle.std.specs.List.{AllZip, AllByRecursion}
 use Rattle.std.proofs.lemmas.List.{append-nil}
 use Rattle.grid.specs.declared.cell.Cell.{Cell}
 use Rattle.xsb.specs.declared.boards.Stretch.{Stretch}
 use Rattle.xsb.specs.declared.entry.BoardEntry.{BoardEntry}
 use Rattle.xsb.specs.declared.entry.Entry.{Entry}
+use Rattle.xsb.specs.declared.limits.TheConstants.{MAX_FILE}
 use Rattle.xsb.specs.declared.lines.Lines.{Lines}
 use Rattle.xsb.specs.declared.names.Gap.{Gap}
 use Rattle.xsb.specs.Lines.{lines_of_text}
@@ -18,7 +19,9 @@ use Rattle.xsb.specs.inside.Stretches.{ReadsBoard, ReadsNoBoard, HasRows}
 use Rattle.xsb.specs.Entries.{IsBoardEntry, IsEntry}
 use Rattle.xsb.specs.Collection.{Found, Part, IsPart, AreSeparated, AreFound, IsCollection, IsJudged}
 use Rattle.xsb.specs.declared.reader.Collection.{Collection}
+use Rattle.xsb.specs.inside.Cursors.{IsAt}
 use Rattle.xsb.specs.inside.Progress.{HasRead, GivesNext}
+use Rattle.xsb.specs.inside.Sources.{IsTaken, Takes}
 use Rattle.xsb.proofs.RowLines.{AllZip-last}
 
 -- after the first gap nothing is found yet
@@ -79,14 +82,39 @@ HasRows-read {old} {new} {stretch} is =
       size = is.read.size_is;
     }
 
+-- after the lines of a board
+IsAt-board : {old new : Lines} {stretch : Stretch} (bytes : List ℕ) → IsAt bytes old → ReadsBoard old new stretch → IsAt bytes new
+IsAt-board {old} {new} {stretch} bytes here is =
+    let long = length-append here.before is.lines in let one = is.read.number in let n = here.number in
+    record {
+      before = here.before ++ is.lines;
+      whole = here.whole ∙ ap (λ l. here.before ++ l) is.read.whole ∙ sym (append_assoc here.before is.lines (cut_lines new.rest));
+      number = omega arith;
+    }
+
+-- after the lines of a gap
+pub IsAt-gap : {old new : Lines} {gap : Gap} (bytes : List ℕ) → IsAt bytes old → ReadsGap old new gap → IsAt bytes new
+IsAt-gap {old} {new} {gap} bytes here is =
+    let long = length-append here.before is.texts in let one = is.read.number in let n = here.number in
+    record {
+      before = here.before ++ is.texts;
+      whole = here.whole ∙ ap (λ l. here.before ++ l) is.read.whole ∙ sym (append_assoc here.before is.texts (cut_lines new.rest));
+      number = omega arith;
+    }
+
+-- before the first line
+pub IsAt-first : (bytes : List ℕ) (lines : Lines) → cut_lines lines.rest ≡ lines_of_text bytes → lines.number ≡ 1 → IsAt bytes lines
+IsAt-first bytes lines all one = record { before = []; whole = sym all; number = omega arith }
+
 -- a board more, and the gap after it
-pub HasRead-more : {bytes : List ℕ} {mid : Lines} {stretch : Stretch} {founds : List Found} (first last : Collection) (entry : BoardEntry) →
+pub Takes-more : {bytes : List ℕ} {mid : Lines} {stretch : Stretch} {founds : List Found} (first last : Collection) (entry : BoardEntry) →
     HasRead bytes first founds →
     (board : ReadsBoard first.lines mid stretch) → ReadsGap mid last.lines last.before →
     ((before_lines after_lines : List (List ℕ)) → IsGap first.before before_lines → IsGap last.before after_lines →
     entry.name.items ≡ name_of before_lines after_lines) →
-    entry.first_line ≡ stretch.first_line → IsJudged (board_of board.rows) entry.board → GivesNext bytes founds last (Some entry)
-HasRead-more {bytes} {mid} {stretch} {founds} first last entry is board gap named line judged =
+    entry.first_line ≡ stretch.first_line → IsJudged (board_of board.rows) entry.board →
+    Takes bytes founds first last (Some (entry, stretch))
+Takes-more {bytes} {mid} {stretch} {founds} first last entry is board gap named line judged =
     let found : Found = record { name = name_of is.texts gap.texts; first_line = first.lines.number; board = board_of board.rows } in
     let part : Part = record { board = board.lines; gap = gap.texts } in
     let one = board.read.number in let two = gap.read.number in let both = length-append board.lines gap.texts in
@@ -116,6 +144,7 @@ HasRead-more {bytes} {mid} {stretch} {founds} first last entry is board gap name
               );
             }));
       },
+      record { mid = mid; read = board; board = refl; first_line = refl; onward = λ b here. IsAt-gap b (IsAt-board b here board) gap },
     )
 
 -- reading from a copy of the lines reads from the lines
@@ -174,6 +203,13 @@ HasEntries-more {bytes} {first} {entries} last board entry is next e =
 length-cut : (rest : List (List ℕ)) → length (cut_lines rest) ≡ length rest
 length-cut [] = refl
 length-cut (raw ∷ rest) = ap suc (length-cut rest)
+
+-- the lines of a board are few
+pub few-lines : {old new : Lines} {stretch : Stretch} → old.number + length old.rest ≤ MAX_FILE + 1 → ReadsBoard old new stretch →
+    stretch.first_line + stretch.count ≤ MAX_FILE + 1
+few-lines {old} {new} {stretch} few is =
+    let a = ap length is.read.whole in let b = length-cut old.rest in let c = length-append is.lines (cut_lines new.rest) in
+    let d = is.first_line in let e = is.count in omega arith
 
 -- a board and a gap take lines away
 pub reads-fewer : {first mid last : Lines} {after : Gap} {stretch : Stretch} → ReadsBoard first mid stretch → ReadsGap mid last after →

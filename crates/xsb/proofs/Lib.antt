@@ -11,6 +11,8 @@ pub mod BoardCells
 pub mod Walls
 pub mod Judging
 pub mod BoardByBoard
+pub mod RowPlaces
+pub mod Breaking
 pub mod RowOrText
 pub mod OneCollection
 pub mod CellsByReaders

@@ -4,6 +4,8 @@ pub mod Boards
 pub mod Names
 pub mod Collection
 pub mod Entries
+pub mod Places
+pub mod Breaks
 pub mod Written
 pub mod Rereading
 pub mod inside

@@ -4,3 +4,6 @@ pub mod Bytes
 pub mod Gaps
 pub mod Stretches
 pub mod Progress
+pub mod Cursors
+pub mod Sources
+pub mod Breaking

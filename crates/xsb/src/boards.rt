@@ -52,7 +52,7 @@ pub(crate) fn read_board<'a>(lines: &mut Lines<'a>) -> Option<Stretch<'a>>
 
 impl Stretch<'_> {
     /// The cells of the board by rows, all rows as long as the longest.
-    fn cells(&self, alloc: Global) -> Result<Vec<Cell>, AllocError>
+    pub(crate) fn cells(&self, alloc: Global) -> Result<Vec<Cell>, AllocError>
         ensures { IfOk result (λ cells. AreCellsOf self.now cells.items) }
     {
         let mut cells = Vec::new(alloc);

@@ -25,8 +25,8 @@ pub(crate) fn cell_of(byte: u8) -> Option<Cell>
     }
 }
 
-/// The byte of a cell.
-pub(crate) fn cell_byte(cell: Cell) -> u8
+/// The byte that [`write`](crate::write) writes for a cell.
+pub fn cell_byte(cell: Cell) -> u8
     ensures { result ≡ cell_byte cell }
 {
     match cell {

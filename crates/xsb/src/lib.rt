@@ -28,6 +28,7 @@
 #![tactic(auto)]
 
 mod boards;
+mod breaks;
 mod bytes;
 mod cells;
 mod entry;
@@ -37,12 +38,16 @@ pub mod laws;
 mod limits;
 mod lines;
 mod names;
+mod places;
 mod reader;
 mod rows;
 mod sizes;
 mod writer;
 
+pub use breaks::{BrokenRow, BrokenRows, Cause};
+pub use cells::cell_byte;
 pub use entry::{BoardEntry, Entry, ReadFault};
 pub use limits::MAX_FILE;
+pub use places::{BoardRows, BoardSource, RowPlace};
 pub use reader::{Collection, read};
 pub use writer::write;

@@ -1,15 +1,18 @@
-ghost use Rattle.std.specs.Prelude.{◌≡◌, ℕ, ◌≤◌, ◌<◌, ◌↔◌, List, [], length, IfOk, IfErr, IfNone, IfSome, OnErr, Err};
+ghost use Rattle.std.specs.Prelude.{◌≡◌, ℕ, ◌+◌, ◌≤◌, ◌<◌, ◌↔◌, List, [], length, IfOk, IfErr, IfNone, IfSome, OnErr, Err};
 ghost use Rattle.std.specs.List.{AllZip};
 ghost use Rattle.xsb.specs.Collection.{Found, IsCollection};
 ghost use Rattle.xsb.specs.Entries.{IsEntry};
+ghost use Rattle.xsb.specs.inside.Cursors.{IsAt};
 ghost use Rattle.xsb.specs.inside.Progress.{HasRead, GivesNext, lines_left};
+ghost use Rattle.xsb.specs.inside.Sources.{GivesSource, Takes};
 
-use crate::boards::read_board;
+use crate::boards::{Stretch, read_board};
 use crate::entry::{BoardEntry, Entry, ReadFault};
 use crate::gaps::read_gap;
 use crate::limits::MAX_FILE;
 use crate::lines::Lines;
 use crate::names::Gap;
+use crate::places::BoardSource;
 use std::alloc::{AllocError, Global};
 use std::fmt;
 use std::fmt::{Debug, Formatter};
@@ -29,6 +32,7 @@ impl<'a> Collection<'a> {
     pub fn of(bytes: &'a [u8]) -> Result<Collection<'a>, ReadFault>
         ensures begins { IfOk result (λ left. HasRead bytes.now left []) }
         ensures bound { IfOk result (λ left. lines_left left ≤ MAX_FILE) }
+        ensures at_line { IfOk result (λ left. IsAt bytes.now left.lines) }
         ensures too_long { (result ≡ Err ReadFault.TooLong) ↔ (MAX_FILE < length bytes.now) }
         ensures fault { IfErr result (λ fault. (fault ≡ ReadFault.TooLong) × (MAX_FILE < length bytes.now)) }
     {
@@ -50,6 +54,34 @@ impl<'a> Collection<'a> {
         ensures fewer { IfOk result (λ next. IfSome next (λ _. lines_left self.new < lines_left self.old)) }
         ensures err { OnErr result (self.new ≡ self.old) }
     {
+        match self.take_board(alloc)? {
+            None => Ok(None),
+            Some((entry, _)) => Ok(Some(entry)),
+        }
+    }
+
+    /// The next board with its rows; `None` after the last, now and in later calls. Fails only if out of memory.
+    pub fn next_source(&mut self, alloc: Global) -> Result<Option<BoardSource>, AllocError>
+        ensures next { (bytes : List ℕ) (founds : List Found) → HasRead bytes self.old founds → IsAt bytes self.old.lines →
+            IfOk result (GivesSource bytes founds self.new) }
+        ensures fewer { IfOk result (λ next. IfSome next (λ _. lines_left self.new < lines_left self.old)) }
+    {
+        let Some((entry, stretch)) = self.take_board(alloc)? else {
+            return Ok(None);
+        };
+        let rows = stretch.rows(alloc)?;
+        Ok(Some(BoardSource { entry, rows }))
+    }
+
+    /// The next board, and the lines that it was read from.
+    fn take_board(&mut self, alloc: Global) -> Result<Option<(BoardEntry, Stretch<'a>)>, AllocError>
+        ensures next { (bytes : List ℕ) (founds : List Found) → HasRead bytes self.old founds →
+            IfOk result (λ next. Takes bytes founds self.old self.new next) }
+        ensures few { IfOk result (λ next. IfSome next (λ taken. taken.1.first_line + taken.1.count ≤ MAX_FILE + 1)) }
+        ensures last { IfOk result (λ next. IfNone next (self.new ≡ self.old)) }
+        ensures fewer { IfOk result (λ next. IfSome next (λ _. lines_left self.new < lines_left self.old)) }
+        ensures err { OnErr result (self.new ≡ self.old) }
+    {
         let mut lines = self.lines.copy();
         let Some(board) = read_board(&mut lines) else {
             return Ok(None);
@@ -59,11 +91,12 @@ impl<'a> Collection<'a> {
         let judged = board.board(alloc)?;
         self.lines = lines;
         self.before = after;
-        Ok(Some(BoardEntry {
+        let entry = BoardEntry {
             name,
             first_line: board.first_line,
             board: judged,
-        }))
+        };
+        Ok(Some((entry, board)))
     }
 }
 

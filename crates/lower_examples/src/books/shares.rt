@@ -1,14 +1,11 @@
 //! Books of several shares: each closes its own positions, and joining all of them gives the whole layers.
-ghost use Rattle.std.specs.Prelude.{◌≡◌, ℕ, Some, slice_get};
-ghost use Rattle.layers.specs.inside.Merging.{IsSegmentOf};
-
 use super::traces::{
     CORNER_LAYERS, HALL_LAYERS, ONE_LAYERS, THERE_AND_BACK_LAYERS, TWO_ENDS_LAYERS,
 };
 use super::{AMPLE, Place, check_places, is_position, level_of, work_through};
 use crate::boards::{CORNER, HALL, ONE, THERE_AND_BACK, TWO_ENDS};
 use grid::{Position, Square};
-use layers::{Book, JoinFault, Layer, MAX_SHARES, Parents, Segment};
+use layers::{Book, JoinFault, Layer, MAX_SHARES, Parents};
 use std::alloc::Global;
 use std::process::Abort;
 
@@ -179,14 +176,14 @@ fn check_share(rt: &impl Abort, book: &Book, layers: &[&[Place]], ranks: &[&[usi
 }
 
 #[test]
-fn layers_are_joined_in_memory_and_in_segments(rt: HostRuntime) {
+fn a_layer_is_joined_in_the_memory_of_another_one(rt: HostRuntime) {
     let mut books = shares_of(&rt, rt.alloc(), CORNER, 3);
     let start = joined(&rt, rt.alloc(), books.as_slice());
     close_all(&rt, rt.alloc(), books.as_mut_slice(), &start, false);
     check_joins(&rt, rt.alloc(), books.as_slice(), start);
 }
 
-// Checks layer 1 of CORNER, joined in the memory of layer 0, and in segments of a position or more.
+// Checks layer 1 of CORNER, joined in the memory of layer 0.
 fn check_joins(rt: &impl Abort, alloc: Global, books: &[Book], start: Layer) {
     let [_, places, _] = CORNER_LAYERS else {
         panic!(rt; "three layers");
@@ -194,26 +191,6 @@ fn check_joins(rt: &impl Abort, alloc: Global, books: &[Book], start: Layer) {
     let (_, room) = Parents::of(start);
     let layer = Layer::join_in(alloc, books, room).expect(rt, "a layer");
     check_places(rt, &layer, places);
-    let layer = joined_by_segments(alloc, books).expect(rt, "a layer");
-    check_places(rt, &layer, places);
-}
-
-// The layer that the books closed last, joined in segments of a position or more.
-fn joined_by_segments(alloc: Global, books: &[Book]) -> Result<Layer, JoinFault> {
-    let Ok(mut segments) = Segment::all(alloc, books, 3, 1, Vec::new(alloc)) else {
-        return Err(JoinFault::OutOfMemory);
-    };
-    merge_each(alloc, books, segments.as_mut_slice());
-    Layer::join_segments(alloc, books, segments.as_mut_slice())
-}
-
-// Merges each of the segments.
-fn merge_each(alloc: Global, books: &[Book], segments: &mut [Segment])
-    ensures { (i : ℕ) (s : Segment) → slice_get segments.new i ≡ Some s → IsSegmentOf books.now s }
-{
-    for place in 0..segments.len() {
-        segments[place].merge(alloc, books);
-    }
 }
 
 #[test]

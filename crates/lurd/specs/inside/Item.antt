@@ -1,5 +1,5 @@
--- What reading one letter with its count gives, and how many letters push.
-use Rattle.std.specs.Prelude.{◌≡◌, ℕ, ◌+◌, ◌≤◌, List, ◌++◌, length, count_by}
+-- What reading one letter with its count gives.
+use Rattle.std.specs.Prelude.{◌≡◌, ℕ, ◌+◌, ◌≤◌, List, ◌++◌, length}
 use Rattle.grid.specs.declared.moves.Letter.{Letter}
 use Rattle.lurd.specs.declared.limits.TheConstants.{MAX_MOVES}
 use Rattle.counts.specs.Counts.{repeats}
@@ -19,7 +19,3 @@ pub record TakesItem (moves : ℕ) (bytes : List ℕ) (letter : Letter) (times l
 -- the byte writes a letter
 abbrev pub IsLetterByte : ℕ → Type 0
 IsLetterByte b = (letter : Letter) × (letter_byte letter ≡ b)
-
--- the number of letters in upper case, which push
-abbrev pub upper_count : List Letter → ℕ
-upper_count letters = count_by (λ letter. letter.push) letters

@@ -23,7 +23,7 @@ use Rattle.prover.proofs.Columns.{column_before}
 
 -- ---- odd and even
 
-not_twice : (b : Bool) → not (not b) ≡ b
+pub not_twice : (b : Bool) → not (not b) ≡ b
 not_twice true = refl
 not_twice false = refl
 
@@ -45,7 +45,7 @@ odd_cancel a b (suc c) same = odd_cancel a b c (sym (not_twice (is_odd (a + c)))
 -- ---- squares next to one another
 
 -- the row and the column of a square
-abbrev row_and_column : Board → ℕ → ℕ
+abbrev pub row_and_column : Board → ℕ → ℕ
 row_and_column board q = q / board.cols + q % board.cols
 
 abbrev Beside : ℕ → ℕ → Type 0
@@ -116,7 +116,7 @@ next_beside board q U some here ahead =
 
 -- ---- a push, and a play
 
-abbrev sum_of : Board → Squares → ℕ
+abbrev pub sum_of : Board → Squares → ℕ
 sum_of board xs = sum_over (row_and_column board) xs
 
 pushed_beside : (board : Board) (s t : Scene) (d : Dir) → 1 ≤ board.cols → IsScene board s → Pushes board s d t →
@@ -144,7 +144,7 @@ odd_step : (n a b c : ℕ) → Beside a b → is_odd c ≡ is_odd (n + b) → is
 odd_step n a b c (inl e) same = same ∙ (let f : n + b ≡ suc n + a = omega (arith, e) in ap is_odd f)
 odd_step n a b c (inr e) same = same ∙ (sym (not_twice (is_odd (n + b))) ∙ (let f : suc (suc (n + b)) ≡ suc n + a = omega (arith, e) in ap is_odd f))
 
-odd_played : (board : Board) (s t : Scene) (ds : List Dir) (ps : List Push) → 1 ≤ board.cols → IsScene board s → Play board Any s ds ps t →
+pub odd_played : (board : Board) (s t : Scene) (ds : List Dir) (ps : List Push) → 1 ≤ board.cols → IsScene board s → Play board Any s ds ps t →
     is_odd (sum_of board t.boxes) ≡ is_odd (length ps + sum_of board s.boxes)
 odd_played board s t ds ps some scene (stay ok) = let e : sum_of board s.boxes ≡ 0 + sum_of board s.boxes = omega arith in ap is_odd e
 odd_played board s t (d ∷ ds) ps some scene (walk {m = m} ok step play) =

@@ -28,8 +28,12 @@ pub record IsLeastSolved (board : Board) (cap : Option ℕ) (all : List Entry) (
   pub fewest : NoneHasFewer board entry.pushes
   pub allowed : Allows cap entry.pushes
 
+-- no solution has fewer pushes, and the cap allows as many
+abbrev pub IsFloor : Board → Option ℕ → ℕ → Type 0
+IsFloor board cap least = NoneHasFewer board least × Allows cap least
+
 -- what the end says of the level, beside what was found
 abbrev pub Tells : Board → Option ℕ → ℕ → List Entry → SearchEnd → Type 0
 Tells board cap limit all Closed = NoneIsAllowed board cap
 Tells board cap limit all (Solved place) = IsLeastSolved board cap all place
-Tells board cap limit all (Limit least) = NoneHasFewer board least × HasMore board limit
+Tells board cap limit all Limit = HasMore board limit

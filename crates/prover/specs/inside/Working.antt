@@ -19,7 +19,7 @@ use Rattle.prover.specs.declared.pushing.Expanded.{Expanded}
 use Rattle.prover.specs.declared.pushing.Opened.{Opened}
 use Rattle.prover.specs.declared.queue.Ticket.{Ticket}
 use Rattle.store.specs.Visited.{Entry, VisitedView, with_least}
-use Rattle.prover.specs.Frontier.{IsFoundWithin, IsTotal, Keeps, AreFew, AreFrom, ComesFrom, IsSearchUnderWay}
+use Rattle.prover.specs.Frontier.{IsReachedAfter, IsFoundWithin, IsTotal, Keeps, AreFew, AreFrom, ComesFrom, IsSearchUnderWay}
 
 -- ---- the queue
 
@@ -49,6 +49,10 @@ pub record IsSearchOnBoard (board : Board) (cap : Option ℕ) (v : VisitedView) 
 abbrev pub SameSize : VisitedView → VisitedView → Type 0
 SameSize old new = (new.boxes ≡ old.boxes) × (new.squares ≡ old.squares)
 
+-- what was found is of the board's size
+abbrev pub HasSize : Board → VisitedView → Type 0
+HasSize board v = (v.boxes ≡ box_count board) × (v.squares ≡ length board.cells)
+
 -- each position keeps its place, and its pushes do not grow
 abbrev pub KeepPlaces : List Entry → List Entry → Type 0
 KeepPlaces old new = (i : ℕ) (x : Entry) → slice_get old i ≡ Some x →
@@ -73,8 +77,9 @@ turns (x ∷ all) = 4294967297 * x.pushes + openness x.least + turns all
 abbrev pub turns_left : ℕ → List Entry → ℕ
 turns_left limit all = turns all + (limit - length all) * (4294967297 * limit + 4294967297)
 
--- there are no fewer positions, and no more turns are left
+-- each position keeps its place, and no more turns are left
 pub record GetsOn (old new : List Entry) : Type 0 where
+  pub still : KeepPlaces old new
   pub more : length old ≤ length new
   pub turns : (limit : ℕ) → length new ≤ limit → turns_left limit new ≤ turns_left limit old
 
@@ -119,11 +124,9 @@ pub record IsExpanding (board : Board) (cap : Option ℕ) (v : VisitedView) (fro
   pub at_place : IsFoundAt v.entries from.place from.position from.pushes
   pub few : suc from.pushes < 2 ^ 32
 
--- an expansion of a position with k pushes has gone on: each position keeps its place, and only entries with more
--- pushes change
+-- an expansion of a position with k pushes has gone on: only entries with more pushes change
 pub record Widens (board : Board) (cap : Option ℕ) (k : ℕ) (old new : VisitedView) : Type 0 where
   pub searched : IsSearchOnBoard board cap new
-  pub still : KeepPlaces old.entries new.entries
   pub below : StayBelow (suc k) old.entries new.entries
   pub goes_on : GetsOn old.entries new.entries
 
@@ -167,9 +170,10 @@ abbrev pub ArePushesDone : Board → Option ℕ → (Scene → Type 0) → (Push
 ArePushesDone board cap Kept Tried k s pushes count =
     (i : ℕ) (p : Push) → i < count → slice_get pushes i ≡ Some p → Tried p → IsPushDone board cap Kept k s p
 
--- the position can be expanded: it fits the level, and one more push can be counted
+-- the position can be expanded: it fits the level, a play leads to it with these pushes, and one more can be counted
 pub record IsExpandable (board : Board) (from : Expanded) : Type 0 where
   pub fits : FitsLevel board from.position
+  pub reached : IsReachedAfter board from.pushes from.position
   pub few : suc from.pushes < 2 ^ 32
 
 -- the position is one of those that the expansion opened
@@ -191,13 +195,19 @@ pub record Opens (board : Board) (cap : Option ℕ) (from : Expanded) (old new :
   pub still : (t : Scene) → IsOpenedPosition old t → IsOpenedPosition new t
   pub each : AreOpenedBy board cap from old → AreOpenedBy board cap from new
 
--- an expansion has opened these positions and left others for later, the least total of which is `next`. It depends on
--- the expanded position alone, not on what was found
-pub record IsExpansion (board : Board) (cap : Option ℕ) (from : Expanded) (opened : List Opened) (next : Option ℕ) :
+-- the position is one of those that the expansion of a position with k pushes opened, or was found before with no more
+-- pushes than it has after one more
+abbrev pub IsKept : List Entry → ℕ → List Opened → Scene → Type 0
+IsKept all k opened t = IsOpenedPosition opened t ⊎ IsFoundWithin all (suc k) t
+
+-- an expansion has opened these positions beside those that were found, and left others for later, the least total of
+-- which is `next`
+pub record IsExpansion (board : Board) (cap : Option ℕ) (all : List Entry) (from : Expanded) (opened : List Opened)
+    (next : Option ℕ) :
     Type 0
   where
     pub each : AreOpenedBy board cap from opened
-    pub expands : Expands board (tighter cap next) (IsOpenedPosition opened) from.pushes from.position
+    pub expands : Expands board (tighter cap next) (IsKept all from.pushes opened) from.pushes from.position
     pub later : IsLater cap from.reach next
 
 -- the first of the opened positions were found with at most k pushes

@@ -13,7 +13,7 @@ abbrev pub IsVacant : Board → (ℕ → Bool) → ℕ → Type 0
 IsVacant board box q = (is_wall board q ≡ false) × (box q ≡ false)
 
 -- a step of the player between two squares does not lessen what the row says; nor does the step back, where the second
--- square is outside
+-- square has place 0
 pub record Keeps (t : RegionTable) (row z y : ℕ) : Type 0 where
   pub there : entry_of t row z ≤ entry_of t row y
   pub back : place_of t y ≡ 0 → entry_of t row y ≤ entry_of t row z
@@ -67,7 +67,7 @@ SetsPass board t waste seats rest marks high low left =
     → SetPasses board t waste seats box (high + sum_where box (high_of t) rest) (low + sum_where box (low_of t) rest)
     (left - sum_where box one rest)
 
--- a square is among the seats if a box on it is seen, and among the squares of the region if it has a place there
+-- a square is among the seats if a box on it is seen, and among the table's squares if its place is not 0
 pub record IsListedAt (t : RegionTable) (seats : Squares) (q : ℕ) : Type 0 where
   pub seat : is_seat t q ≡ true → contains seats q ≡ true
   pub square : place_of t q ≢ 0 → contains t.squares.items q ≡ true

@@ -20,7 +20,7 @@ low_of t q = (key_of t q).low
 abbrev pub is_seat : RegionTable → ℕ → Bool
 is_seat t q = not ((high_of t q == 0) && (low_of t q == 0))
 
--- the place of a square: 0 outside the region
+-- the place of a square
 abbrev pub place_of : RegionTable → ℕ → ℕ
 place_of t q = slice_index_or t.places.items q 0
 

@@ -1,5 +1,5 @@
--- Solutions with the fewest pushes, by a search for two pushes less.
-use Rattle.std.proofs.Common.{◌≡◌, ℕ, suc, List, Option, Some, unwrap_or, sym, ap, subst, arith}
+-- Solutions with the fewest pushes.
+use Rattle.std.proofs.Common.{◌≡◌, ◌≤◌, ℕ, suc, List, Option, Some, inl, inr, length, unwrap_or, sym, ap, subst, arith}
 use Rattle.grid.specs.Board.{Board}
 use Rattle.grid.specs.Lawful.{IsLevel}
 use Rattle.grid.specs.declared.moves.Letter.{Letter}
@@ -9,6 +9,7 @@ use Rattle.lurd.specs.declared.verdict.Verdict.TheVariants.{Solved}
 use Rattle.lurd.proofs.lemmas.Solutions.{solution_of_solved}
 use Rattle.prover.specs.Fewest.{NoneHasFewer}
 use Rattle.prover.specs.Parity.{SomeHas, TwoLessDecide}
+use Rattle.shortest.specs.Improving.{IsNoWorse}
 use Rattle.prover.specs.Outcomes.{IsOutcome}
 use Rattle.prover.specs.declared.outcome.Outcome.{Outcome}
 use Rattle.prover.specs.declared.outcome.Outcome.TheVariants.{NoneWithin}
@@ -29,3 +30,18 @@ none_has_fewer board limit pushes most o law level some so e two = by (subst (λ
         let same : cap ≡ most = sym (ap (λ (n : Option ℕ). unwrap_or n 0) is) in
         let long : pushes ≡ suc (suc cap) = omega (arith, same, two) in
         subst (λ (n : ℕ). NoneHasFewer board n) (sym long) (law level cap (subst (λ (n : ℕ). SomeHas board n) long some) none)
+
+-- letters that are no worse than those with the fewest pushes have the fewest too
+pub still_fewest : (board : Board) (old new : List Letter) (pushes : ℕ) → IsVerdict board old (Solved pushes (length old)) →
+    NoneHasFewer board pushes → IsNoWorse board old new → IsVerdict board new (Solved pushes (length new))
+still_fewest board old new pushes was fewest better =
+    let (fewer, shorter, is, cases) = better pushes (length old) was in
+    let w = solution_of_solved board new fewer shorter is in
+    let least : pushes ≤ length w.list = fewest _ w.list w.solution in
+    let count = w.pushes_are in
+    let same : fewer ≡ pushes = elim cases [
+      | inl less ↦ absurd (omega (arith, less, least, count))
+      | inr (as_many, few) ↦ as_many
+    ] in
+    subst (λ (n : ℕ). IsVerdict board new (Solved pushes n)) (sym w.moves_are)
+    (subst (λ (n : ℕ). IsVerdict board new (Solved n shorter)) same is)

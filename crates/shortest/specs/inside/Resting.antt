@@ -10,7 +10,7 @@ use Rattle.prices.specs.Solving.{SolvableWithin}
 use Rattle.successors.specs.Expansion.{after_push}
 use Rattle.store.specs.Visited.{Entry}
 use Rattle.shortest.specs.inside.Listing.{IsEntryAt, StatesView}
-use Rattle.shortest.specs.inside.Walking.{IsWalkLength}
+use Rattle.area.specs.WalkLengths.{IsWalkLength}
 use Rattle.shortest.specs.declared.ways.Way.{Way}
 
 -- the number, if there is one, is at most n

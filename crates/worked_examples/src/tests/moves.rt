@@ -1,8 +1,8 @@
 //! The reports of `best` and `prove`, with and without the fewest moves.
 use crate::Paper;
 use sokopar::{
-    BestRequest, CollectionRequest, ProveRequest, Reader, SearchConfig, Writer, run_best,
-    run_best_collection, run_prove,
+    BestRequest, CollectionRequest, ProveRequest, Reader, SearchConfig, Unwatched, Writer,
+    run_best, run_best_collection, run_prove,
 };
 use std::alloc::Global;
 use std::process::Abort;
@@ -28,12 +28,14 @@ fn best_looks_for_the_fewest_moves_if_they_are_wanted(rt: HostRuntime) {
     let request = BestRequest {
         number: 1,
         config: config(1_000, true),
+        lurd: false,
     };
     let status = run_best(
         &rt,
         alloc,
         &mut Reader::new(ROOM),
         request,
+        &mut Unwatched,
         &mut Writer::new(&mut paper),
     );
     assert_eq!(&rt; status, Ok(0));
@@ -50,6 +52,7 @@ fn levels_of_a_collection_have_the_fewest_moves_if_they_are_wanted(rt: HostRunti
     let request = CollectionRequest {
         from: 1,
         to: 1,
+        table: false,
         config: config(1_000, true),
     };
     let status = run_best_collection(
@@ -57,6 +60,7 @@ fn levels_of_a_collection_have_the_fewest_moves_if_they_are_wanted(rt: HostRunti
         alloc,
         &mut Reader::new(ROOM),
         request,
+        &mut Unwatched,
         &mut Writer::new(&mut paper),
     );
     assert_eq!(&rt; status, Ok(0));
@@ -81,6 +85,7 @@ fn proves<R: Threads + Sync + Abort>(
         workers: config.workers,
         limit: config.limit,
         moves: config.moves,
+        lurd: false,
     };
     let answer = run_prove(
         rt,
@@ -88,6 +93,7 @@ fn proves<R: Threads + Sync + Abort>(
         &mut Reader::new(ROOM),
         &mut Reader::new(solution),
         request,
+        &mut Unwatched,
         &mut Writer::new(&mut paper),
     );
     assert_eq!(rt; answer, Ok(status));

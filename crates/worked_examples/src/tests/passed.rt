@@ -60,7 +60,11 @@ fn check_report<R: Threads + Wait + Sync + Abort>(
         rt,
         alloc,
         &mut Reader::new(TWO_ENDS),
-        SolveRequest { number: 1, config },
+        SolveRequest {
+            number: 1,
+            config,
+            lurd: false,
+        },
         gate,
         &mut Writer::new(&mut paper),
     );

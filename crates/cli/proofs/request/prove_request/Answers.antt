@@ -1,5 +1,5 @@
 -- A level or a limit that is missing or bad leaves no settings.
-use Rattle.cli.proofs.Asking.{no_level_to_prove, no_limit_to_prove, no_workers_to_prove, on_err}
+use Rattle.cli.proofs.Asking.{first_to_prove, last_to_prove, no_level_to_prove, no_limit_to_prove, no_workers_to_prove, on_err}
 use Rattle.cli.proofs.request.prove_request.Goals as goal
 
 pub returns-in_err-number-clause-err : goal.returns-in_err-number-clause-err
@@ -10,3 +10,9 @@ returns-in_err-limit-clause-err c = on_err _ _ (no_limit_to_prove _ c.in_err-lim
 
 pub returns-in_err-workers-clause-err : goal.returns-in_err-workers-clause-err
 returns-in_err-workers-clause-err c = on_err _ _ (no_workers_to_prove _ c.in_err-workers.ensures.err)
+
+pub returns-in_err-lacks-clause-err : goal.returns-in_err-lacks-clause-err
+returns-in_err-lacks-clause-err c = on_err _ _ (first_to_prove _ c.in_err-lacks.ensures.err)
+
+pub returns-in_err-lacks-2-clause-err : goal.returns-in_err-lacks-2-clause-err
+returns-in_err-lacks-2-clause-err c = on_err _ _ (last_to_prove _ c.in_err-lacks-2.ensures.err)

@@ -7,8 +7,8 @@ use Rattle.crew.specs.inside.Iterations.{AreWorkedBy}
 use Rattle.crew.proofs.Iterations.{begins, ends_over, goes_on, joinable, next_layer}
 use Rattle.crew.proofs.iteration.iterate.Goals as goal
 
-pub join_layer-requires-after_bounds : goal.join_layer-requires-after_bounds
-join_layer-requires-after_bounds g c κs within =
+pub last_layer-requires : goal.last_layer-requires
+last_layer-requires g c =
     subst AreAllShares (sym c.as_slice.ensures.value)
     (joinable c.args.settings.now.config c.args.state.now.search c.args.books.items c.requires.limits c.requires.paused)
 

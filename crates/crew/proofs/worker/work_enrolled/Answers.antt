@@ -13,7 +13,7 @@ returns-then-is_empty-clause-gate g c =
     let books = c.args.worker.now.shared.now.books in let is = c.in-Ok.ensures in
     let first = c.args.drawer.now.hand in let later = c.draw.new.drawer.hand in
     let long = ap length is.drawn ∙ length-append first.numbers (c.in-Ok.rank ∷ []) in
-    c.by_batches.ensures.gate first (has_drawn may books 1 0 c.draw.new.nth first first later long (has_none may books first) (0, refl, is.goes_on))
+    c.with_own_parcel.ensures.gate first (has_drawn may books 1 0 c.draw.new.nth first first later long (has_none may books first) (0, refl, is.goes_on))
 
 pub returns-clause-gate : goal.returns-clause-gate
 returns-clause-gate g c =
@@ -21,4 +21,4 @@ returns-clause-gate g c =
     let books = c.args.worker.now.shared.now.books in let is = c.in-Ok.ensures in
     let first = c.args.drawer.now.hand in let later = c.draw.new.drawer.hand in
     let long = ap length is.drawn ∙ length-append first.numbers (c.in-Ok.rank ∷ []) in
-    c.by_batches-2.ensures.gate first (has_drawn may books 1 0 c.draw.new.nth first first later long (has_none may books first) (0, refl, is.goes_on))
+    c.by_batches.ensures.gate first (has_drawn may books 1 0 c.draw.new.nth first first later long (has_none may books first) (0, refl, is.goes_on))

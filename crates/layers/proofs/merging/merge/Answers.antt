@@ -6,13 +6,12 @@ use Rattle.layers.specs.BookView.{last_list}
 use Rattle.layers.specs.inside.Merging.{HasLeastFirst, Takes}
 use Rattle.layers.specs.inside.Merging.Takes.{nothing}
 use Rattle.layers.proofs.Rests.{first_there, one_more, taken_counted}
-use Rattle.layers.proofs.Segments.{left_all}
 use Rattle.layers.proofs.merging.merge.Goals as goal
 
 pub loop-index-init : goal.loop-index-init
 loop-index-init c = (
   [],
-  subst (Takes (map last_list c.args.books.now) []) (sym (c.in_ok-rests.ensures ∙ left_all c.args.books.now)) nothing,
+  subst (Takes (map last_list c.args.books.now) []) (sym c.in_ok-rests.ensures) nothing,
   c.in_ok-squares.ensures,
   c.in_ok-origins.ensures.items,
 )
@@ -50,12 +49,11 @@ returns c =
     record {
       entries = c.loop-index.invariant.0;
       merged = (c.loop-index.rests.items, c.loop-index.invariant.1, none);
-      counted = c.count_all-count.ensures ∙ (ap total (c.as_slice.ensures.value ∙ c.in_ok-rests.ensures ∙ left_all c.args.books.now)
+      counted = c.count_all-count.ensures ∙ (ap total (c.as_slice.ensures.value ∙ c.in_ok-rests.ensures)
           ∙ omega (arith, taken_counted c.loop-index.invariant.1, none));
       squares_are = c.loop-index.invariant.2;
       origins_are = c.loop-index.invariant.3;
     }
 
 pub count_all-count-requires : goal.count_all-count-requires
-count_all-count-requires c = subst (λ xs. total xs ≤ MOST_POSITIONS) (sym (c.as_slice.ensures.value ∙ c.in_ok-rests.ensures ∙ left_all c.args.books.now))
-    c.requires.few
+count_all-count-requires c = subst (λ xs. total xs ≤ MOST_POSITIONS) (sym (c.as_slice.ensures.value ∙ c.in_ok-rests.ensures)) c.requires.few

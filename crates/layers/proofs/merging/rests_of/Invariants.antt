@@ -1,6 +1,6 @@
-use Rattle.std.proofs.Common.{◌≡◌, take}
-use Rattle.layers.specs.inside.Merging.{left_of}
+use Rattle.std.proofs.Common.{◌≡◌, map, take}
+use Rattle.layers.specs.BookView.{last_list}
 use Rattle.layers.proofs.merging.rests_of.Given as goal
 
-abbrev pub invariant-loop-index : goal.invariant-loop-index
-invariant-loop-index l = l.rests.items ≡ left_of (take l.index l.books) l.taken
+abbrev pub invariant-loop-book : goal.invariant-loop-book
+invariant-loop-book l = l.rests.items ≡ map last_list (take l.book-index l.books)

@@ -10,9 +10,9 @@ use Rattle.corrals.specs.Corrals.{IsClosure}
 use Rattle.corrals.specs.Sets.{SetsView}
 use Rattle.prices.specs.Helping.{SlackView}
 use Rattle.prices.specs.Solving.{Allows}
-use Rattle.prover.specs.inside.Working.{ArePushesDone, IsChosen, IsOpenedPosition, tighter}
+use Rattle.prover.specs.inside.Working.{ArePushesDone, IsChosen, IsKept, tighter}
 use Rattle.prover.proofs.Deferring.{loosened}
-use Rattle.prover.proofs.Steps.{are_taken_less, chosen_suffice, expands_by, read_push, taken_more}
+use Rattle.prover.proofs.Steps.{are_taken_less, chosen_suffice, expands_by, kept_on, read_push, taken_more}
 use Rattle.prover.proofs.expansion.open_all.Goals as goal
 
 pub find_pushes-requires : goal.find_pushes-requires
@@ -44,8 +44,9 @@ loop-index-preserved c =
     let p = c.index-pushes-index.result in
     let now = c.in_ok-try_push.ensures in
     let kept = c.try_push.ensures.kept in
-    let before = IsOpenedPosition c.loop-index.workspace.opened.items in
-    let after = IsOpenedPosition c.try_push.new.workspace.opened.items in
+    let all = c.args.frontier.now.entries in
+    let before = IsKept all k c.loop-index.workspace.opened.items in
+    let after = IsKept all k c.try_push.new.workspace.opened.items in
     let workspace = c.try_push.new.workspace in
     let only = c.find-only.result in
     let end : length c.pushes-index-end.result.now ≡ length c.find_pushes.new.self.pushes = ap length c.pushes-index-end.ensures in
@@ -58,7 +59,8 @@ loop-index-preserved c =
     let lower = tighter cap next in
     let narrowed = are_taken_less board (tighter cap c.loop-index.workspace.next) lower before (IsChosen only held) k s ps c.loop-index.index
     now.defers.narrows was.taken in
-    let taken = taken_more board lower before after (IsChosen only held) k s ps c.loop-index.index p now.opens.still here narrowed now.taken in
+    let taken = taken_more board lower before after (IsChosen only held) k s ps c.loop-index.index p
+    (kept_on all k c.loop-index.workspace.opened.items c.try_push.new.workspace.opened.items now.opens.still) here narrowed now.taken in
     record {
       task = ap (λ (v : ExpanderView). v.task) kept.0 ∙ was.task;
       found = subst (λ (v : ExpanderView). HasPushesOf v s) (sym kept.0) was.found;
@@ -97,7 +99,7 @@ returns-clause-expansion c =
     record {
       each = was.each;
       later = was.later;
-      expands = expands_by board (tighter cap next) (IsOpenedPosition c.loop-index.workspace.opened.items) (IsChosen only held)
+      expands = expands_by board (tighter cap next) (IsKept c.args.frontier.now.entries k c.loop-index.workspace.opened.items) (IsChosen only held)
           k s ps c.loop-index.index fits.scene pushes over
           (λ m allowed. chosen_suffice board left s only held level fits closure m (c.left-left.ensures m (loosened cap next (k + suc m) allowed))) was.taken;
     }

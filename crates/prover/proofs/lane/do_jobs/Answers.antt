@@ -4,7 +4,7 @@ use Rattle.prover.specs.inside.Rounds.{AreJobs}
 use Rattle.prover.proofs.lane.do_jobs.Goals as goal
 
 pub do_all-requires-clause-jobs : goal.do_all-requires-clause-jobs
-do_all-requires-clause-jobs c = subst (AreJobs c.args.pruner.now) (sym c.as_mut_slice.ensures.value) c.requires.jobs
+do_all-requires-clause-jobs c = subst (AreJobs c.args.pruner.now c.args.frontier.now.entries) (sym c.as_mut_slice.ensures.value) c.requires.lane.jobs
 
 pub returns : goal.returns
 returns c =
@@ -13,5 +13,5 @@ returns c =
     let long : c.args.lane.now.jobs.len ≡ length new = omega (arith, c.args.lane.now.jobs.ok.0) in
     record {
       task = c.do_all.ensures.task;
-      jobs = subst (AreJobs c.args.pruner.now) (sym (ap (λ (n : ℕ). take n (new ++ rest)) long ∙ take-append_seam new rest)) c.do_all.ensures.jobs;
+      jobs = subst (AreJobs c.args.pruner.now c.args.frontier.now.entries) (sym (ap (λ (n : ℕ). take n (new ++ rest)) long ∙ take-append_seam new rest)) c.do_all.ensures.jobs;
     }

@@ -37,7 +37,8 @@ returns-clause-searched c =
     let there : slice_get middle place ≡ Some x = now.widens.below place x waits.at (omega (arith, pushes)) in
     let near = ((c.requires.searched.under_way.sound place x waits.at).total waits.least waits.is_open).near in
     let within = waits.near in
-    let expands = expands_found board (tighter cap next) c.args.opened.now middle k c.args.from.now.position now.entered c.requires.expansion.expands in
+    let expands = expands_found board (tighter cap next) c.args.opened.now c.args.frontier.now.entries middle k c.args.from.now.position now.widens.goes_on.still
+    now.entered c.requires.expansion.expands in
     on_ok_so c.set_least.result (λ has. record {
       under_way = under_way_expanded board cap middle c.set_least.new.self.entries place c.args.from.now.reach x next now.widens.searched.under_way there
           (omega (arith, near, within)) (subst (λ (s : Scene). ¬ (IsSolved board s)) position c.requires.ready.unsolved) c.requires.expansion.later

@@ -30,7 +30,7 @@ loop-index-preserved c =
     record {
       expanding = expanding_on board cap old new from was.expanding now.widens;
       widens = widens_then board cap from.pushes c.args.frontier.now old new was.widens now.widens;
-      entered = entered_more old.entries new.entries xs (suc from.pushes) c.loop-index.index o now.widens.still
+      entered = entered_more old.entries new.entries xs (suc from.pushes) c.loop-index.index o now.widens.goes_on.still
           (slice_get_read xs (length xs) c.loop-index.index o refl c.loop-index-test.true c.index-opened-index.is) now.found was.entered;
     }
 

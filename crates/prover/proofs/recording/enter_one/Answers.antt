@@ -34,7 +34,6 @@ returns-clause-widens c =
         boxes = c.open_at.ensures.size.0 ∙ c.requires.expanding.searched.boxes;
         squares = c.open_at.ensures.size.1 ∙ c.requires.expanding.searched.squares;
       };
-      still = enters.still;
       below = subst (λ (j : ℕ). StayBelow j old new) one enters.below;
       goes_on = enters.goes_on (omega (arith, few, count));
     }) c.open_at.ensures.enters

@@ -15,6 +15,6 @@ loop-preserved c =
     let size = ap (λ (xs : List Lane). length xs) items in
     let long = length-append old (lane ∷ []) in
     record {
-      lanes = subst (AreLanes task) (sym items) (each_push (IsLane task) old lane c.in_ok-lane.ensures c.loop.invariant.lanes);
+      lanes = λ all start. subst (AreLanes task all) (sym items) (each_push (IsLane task all) old lane (c.in_ok-lane.ensures all) (c.loop.invariant.lanes all start));
       more = omega (arith, more, size, long);
     }

@@ -7,10 +7,10 @@ use Rattle.prover.proofs.rounds.clear_all.Goals as goal
 
 pub loop-index-preserved : goal.loop-index-preserved
 loop-index-preserved c =
-    let all = c.loop-index.invariant.all in
+    let size = c.loop-index.invariant.all in
     record {
-      lanes = λ t start. each_set (IsLane t) c.loop-index.lanes c.loop-index.index c.clear.new.self
-          (c.clear.ensures t (each_at (IsLane t) c.loop-index.lanes c.loop-index.index (omega (arith, all, c.loop-index-test.true))
-          (c.loop-index.invariant.lanes t start) _)) (c.loop-index.invariant.lanes t start);
-      all = length-set c.loop-index.lanes c.loop-index.index c.clear.new.self ∙ all;
+      lanes = λ t all start. each_set (IsLane t all) c.loop-index.lanes c.loop-index.index c.clear.new.self
+          (c.clear.ensures t all (each_at (IsLane t all) c.loop-index.lanes c.loop-index.index (omega (arith, size, c.loop-index-test.true))
+          (c.loop-index.invariant.lanes t all start) _)) (c.loop-index.invariant.lanes t all start);
+      all = length-set c.loop-index.lanes c.loop-index.index c.clear.new.self ∙ size;
     }

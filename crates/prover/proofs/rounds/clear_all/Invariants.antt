@@ -1,10 +1,11 @@
-use Rattle.std.proofs.Common.{◌≡◌, length}
+use Rattle.std.proofs.Common.{◌≡◌, List, length}
+use Rattle.store.specs.Visited.{Entry}
 use Rattle.successors.specs.Tasks.{Task}
 use Rattle.prover.specs.inside.Rounds.{AreLanes}
 use Rattle.prover.proofs.rounds.clear_all.Given as goal
 
 abbrev pub invariant-loop-index : goal.invariant-loop-index
 invariant-loop-index l = record {
-  lanes : (t : Task) → AreLanes t l.fn.lanes → AreLanes t l.lanes;
+  lanes : (t : Task) (all : List Entry) → AreLanes t all l.fn.lanes → AreLanes t all l.lanes;
   all : length l.lanes ≡ length l.fn.lanes;
 }

@@ -10,8 +10,8 @@ use Rattle.prover.proofs.Dealing.{each_at, ready_by}
 use Rattle.prover.proofs.Entering.{in_range}
 use Rattle.prover.proofs.rounds.deal.Goals as goal
 
-pub add-requires-clause-ready : goal.add-requires-clause-ready
-add-requires-clause-ready c =
+pub add-requires : goal.add-requires
+add-requires c =
     let board = c.args.pruner.now.board in
     let cap = c.args.pruner.now.cap in
     let now = c.take_open.new.self in
@@ -25,23 +25,23 @@ add-requires-clause-ready c =
     (λ solved. false≢true (sym c.if-solved.false ∙ c.is_solved-solved.ensures.1
     (subst (λ (b : Board). IsSolved b c.expanded-from.result.position) (sym c.level.ensures) solved)))
 
-pub add-requires-clause-lane : goal.add-requires-clause-lane
-add-requires-clause-lane c =
-    let all = c.loop-index.invariant.all in
-    let many = c.requires.all in
-    each_at (IsLane c.args.pruner.now) c.loop-index.lanes (c.loop-index.index % 16) (omega (arith, all, many)) c.loop-index.invariant.lanes _
-
 pub loop-index-init : goal.loop-index-init
 loop-index-init c = record {
   same = refl;
-  lanes = c.clear_all.ensures.lanes c.args.pruner.now c.requires.lanes;
+  lanes = c.clear_all.ensures.lanes c.args.pruner.now c.args.frontier.now.entries c.requires.lanes;
   all = c.clear_all.ensures.all;
 }
 
 pub loop-index-preserved : goal.loop-index-preserved
-loop-index-preserved c = record {
-  same = c.take_open.ensures.same ∙ c.loop-index.invariant.same;
-  lanes = each_set (IsLane c.args.pruner.now) c.loop-index.lanes (c.loop-index.index % 16) c.add.new.self c.in_ok-add.ensures
-      c.loop-index.invariant.lanes;
-  all = length-set c.loop-index.lanes (c.loop-index.index % 16) c.add.new.self ∙ c.loop-index.invariant.all;
-}
+loop-index-preserved c =
+    let is = IsLane c.args.pruner.now c.args.frontier.now.entries in
+    let was = c.loop-index.invariant in
+    let size = was.all in
+    let many = c.requires.all in
+    let place = c.loop-index.index % 16 in
+    record {
+      same = c.take_open.ensures.same ∙ was.same;
+      lanes = each_set is c.loop-index.lanes place c.add.new.self
+          (c.in_ok-add.ensures c.args.frontier.now.entries (each_at is c.loop-index.lanes place (omega (arith, size, many)) was.lanes _)) was.lanes;
+      all = length-set c.loop-index.lanes place c.add.new.self ∙ was.all;
+    }

@@ -1,12 +1,14 @@
 use Rattle.std.proofs.Common.{rules, arith, ◌+◌, ◌<◌, ◌≤◌, ◌∙◌, cond, length, nat_lt, sym, subst}
 use Rattle.std.proofs.lemmas.Bool.{false≢true}
+use Rattle.std.proofs.lemmas.Option.{slice_get_within}
 use Rattle.grid.specs.Board.{Board, Scene, IsSolved}
 use Rattle.grid.specs.Lawful.{IsLevel}
 use Rattle.store.specs.Visited.{VisitedView}
+use Rattle.prover.specs.Fewest.{NoneHasFewer}
 use Rattle.prover.specs.Frontier.{NoneIsOpen}
-use Rattle.prover.specs.inside.Working.{IsLeastOpen, IsSearchOnBoard, turns_left}
-use Rattle.prover.proofs.Dealing.{ready_by, waits_by}
-use Rattle.prover.proofs.Endings.{has_more, least_told, none_is_allowed, solved_told, told_more}
+use Rattle.prover.specs.inside.Working.{IsLeastOpen, KeepPlaces, IsSearchOnBoard, turns_left}
+use Rattle.prover.proofs.Dealing.{lanes_on, ready_by, waits_by}
+use Rattle.prover.proofs.Endings.{floor_then, has_more, none_is_allowed, solved_told}
 use Rattle.prover.proofs.Steps.{rounds_lessen, turns_then}
 use Rattle.prover.proofs.searching.run.Goals as goal
 
@@ -19,7 +21,7 @@ returns-then-solved-clause-tells g c =
     let level : IsLevel board = subst (λ (b : Board). IsLevel b) c.level.ensures c.tell.ensures in
     solved_told board cap c.least_open.new.self.entries c.in-Some.place c.in-Some.least level searched.under_way found
     (λ x at. subst (λ (s : Scene). IsSolved board s) (c.position.ensures x at)
-    (subst (λ (b : Board). IsSolved b c.position.result) c.level-in-Some.ensures (c.is_solved-solved.ensures.0 c.if-solved.true)))
+    (subst (λ (b : Board). IsSolved b c.position.result) c.level-in-Some-2.ensures (c.is_solved-solved.ensures.0 c.if-solved.true)))
 
 pub returns-then-len-limit-clause-tells : goal.returns-then-len-limit-clause-tells
 returns-then-len-limit-clause-tells g c =
@@ -29,11 +31,8 @@ returns-then-len-limit-clause-tells g c =
     let all = c.least_open.new.self.entries in
     let searched = subst (λ (v : VisitedView). IsSearchOnBoard board cap v) (sym c.least_open.ensures.same) c.loop-desk.invariant.searched in
     let level : IsLevel board = subst (λ (b : Board). IsLevel b) c.level.ensures c.tell.ensures in
-    let many : c.args.limit < length all = search rules in (
-      told_more board c.in-Some.least c.loop-desk.reach c.max-reach.result c.max-reach.ensures
-          (least_told board cap all c.in-Some.place c.in-Some.least level searched.under_way found) c.loop-desk.invariant.told,
-      has_more board cap all c.args.limit searched.under_way c.tell-then-len-limit.ensures many,
-    )
+    let many : c.args.limit < length all = search rules in
+    has_more board cap all c.args.limit searched.under_way c.tell-then-len-limit.ensures many
 
 pub returns-clause-tells : goal.returns-clause-tells
 returns-clause-tells g c =
@@ -48,7 +47,7 @@ pub expand-requires-clause-waits : goal.expand-requires-clause-waits
 expand-requires-clause-waits g c =
     let found : IsLeastOpen c.least_open.new.self.entries c.in-Some.place c.in-Some.least = search rules in
     let (x, at, open_, from) = found in
-    let greater = c.max-reach.ensures in
+    let greater = c.max.ensures in
     let reach = c.expanded-first.ensures.place.1 in
     waits_by c.least_open.new.self.entries c.in-Some.place c.in-Some.least x c.expanded-first.result at open_ c.expanded-first.ensures.place.0
     (c.expanded-first.ensures.entry x at) (omega (arith, greater, reach))
@@ -65,8 +64,33 @@ expand-requires-clause-ready g c =
     let reach = c.expanded-first.ensures.place.1 in
     ready_by board cap c.least_open.new.self c.in-Some.place x c.expanded-first.result searched (omega (arith, few)) at (c.expanded-first.ensures.entry x at)
     (omega (arith, reach)) (λ solved. false≢true (sym c.if-solved.false ∙ c.is_solved-solved.ensures.1
-    (subst (λ (b : Board). IsSolved b c.position.result) (sym c.level-in-Some.ensures)
+    (subst (λ (b : Board). IsSolved b c.position.result) (sym c.level-in-Some-2.ensures)
     (subst (λ (s : Scene). IsSolved board s) ((c.expanded-first.ensures.entry x at).0 ∙ sym (c.position.ensures x at)) solved))))
+
+pub expand_more-requires-clause-desk : goal.expand_more-requires-clause-desk
+expand_more-requires-clause-desk g c κs within = record {
+  task = c.expand.ensures.task ∙ c.loop-desk.invariant.desk.task;
+  lanes = lanes_on c.args.pruner.now c.loop-desk.frontier.entries c.expand.new.frontier.entries c.loop-desk.desk.lanes.items
+      (subst (λ (v : VisitedView). KeepPlaces v.entries c.expand.new.frontier.entries) c.least_open.ensures.same c.in_ok-expand.ensures.goes_on.still)
+      c.loop-desk.invariant.desk.lanes;
+}
+
+pub loop-desk-init : goal.loop-desk-init
+loop-desk-init g c = record {
+  searched = c.requires.searched;
+  floor = c.requires.floor;
+  desk = c.in_ok-desk.ensures c.args.frontier.now.entries;
+}
+
+pub position-requires : goal.position-requires
+position-requires g c =
+    let found : IsLeastOpen c.least_open.new.self.entries c.in-Some.place c.in-Some.least = search rules in
+    slice_get_within c.least_open.new.self.entries c.in-Some.place found.0 found.1
+
+pub expanded-first-requires-clause-place : goal.expanded-first-requires-clause-place
+expanded-first-requires-clause-place g c =
+    let found : IsLeastOpen c.least_open.new.self.entries c.in-Some.place c.in-Some.least = search rules in
+    slice_get_within c.least_open.new.self.entries c.in-Some.place found.0 found.1
 
 pub loop-desk-preserved : goal.loop-desk-preserved
 loop-desk-preserved g c =
@@ -77,9 +101,8 @@ loop-desk-preserved g c =
     let level : IsLevel board = subst (λ (b : Board). IsLevel b) c.level.ensures c.tell.ensures in
     record {
       searched = c.in_ok-expand_more.ensures.searched;
-      told = told_more board c.in-Some.least c.loop-desk.reach c.max-reach.result c.max-reach.ensures
-          (least_told board cap c.least_open.new.self.entries c.in-Some.place c.in-Some.least level searched.under_way found)
-          c.loop-desk.invariant.told;
+      floor = floor_then board cap c.least_open.new.self.entries c.in-Some.place c.in-Some.least c.loop-desk.reach c.max.result c.max.ensures
+          level searched.under_way found c.loop-desk.invariant.floor;
       desk = c.in_ok-expand_more.ensures.desk;
     }
 
@@ -93,3 +116,54 @@ loop-desk-smaller g c =
     cond (nat_lt limit (length v.entries)) 0 (1 + turns_left limit v.entries)) c.least_open.ensures.same
     (rounds_lessen limit all new few
     (turns_then limit all c.expand.new.frontier.entries new (c.in_ok-expand.ensures.fewer_turns limit) c.in_ok-expand_more.ensures.goes_on))
+
+pub returns-then-solved-clause-floor : goal.returns-then-solved-clause-floor
+returns-then-solved-clause-floor g c =
+    let found : IsLeastOpen c.least_open.new.self.entries c.in-Some.place c.in-Some.least = search rules in
+    let board = c.args.pruner.now.board in
+    let cap = c.args.pruner.now.cap in
+    let searched = subst (λ (v : VisitedView). IsSearchOnBoard board cap v) (sym c.least_open.ensures.same) c.loop-desk.invariant.searched in
+    let level : IsLevel board = subst (λ (b : Board). IsLevel b) c.level.ensures c.tell.ensures in
+    floor_then board cap c.least_open.new.self.entries c.in-Some.place c.in-Some.least c.loop-desk.reach c.max.result c.max.ensures level
+    searched.under_way found c.loop-desk.invariant.floor
+
+pub returns-then-len-limit-clause-floor : goal.returns-then-len-limit-clause-floor
+returns-then-len-limit-clause-floor g c =
+    let found : IsLeastOpen c.least_open.new.self.entries c.in-Some.place c.in-Some.least = search rules in
+    let board = c.args.pruner.now.board in
+    let cap = c.args.pruner.now.cap in
+    let searched = subst (λ (v : VisitedView). IsSearchOnBoard board cap v) (sym c.least_open.ensures.same) c.loop-desk.invariant.searched in
+    let level : IsLevel board = subst (λ (b : Board). IsLevel b) c.level.ensures c.tell.ensures in
+    floor_then board cap c.least_open.new.self.entries c.in-Some.place c.in-Some.least c.loop-desk.reach c.max.result c.max.ensures level
+    searched.under_way found c.loop-desk.invariant.floor
+
+pub returns-in_err-expand-clause-floor : goal.returns-in_err-expand-clause-floor
+returns-in_err-expand-clause-floor g c =
+    let found : IsLeastOpen c.least_open.new.self.entries c.in-Some.place c.in-Some.least = search rules in
+    let board = c.args.pruner.now.board in
+    let cap = c.args.pruner.now.cap in
+    let searched = subst (λ (v : VisitedView). IsSearchOnBoard board cap v) (sym c.least_open.ensures.same) c.loop-desk.invariant.searched in
+    let level : IsLevel board = subst (λ (b : Board). IsLevel b) c.level.ensures c.tell.ensures in
+    floor_then board cap c.least_open.new.self.entries c.in-Some.place c.in-Some.least c.loop-desk.reach c.max.result c.max.ensures level
+    searched.under_way found c.loop-desk.invariant.floor
+
+pub returns-in_err-expand_more-clause-floor : goal.returns-in_err-expand_more-clause-floor
+returns-in_err-expand_more-clause-floor g c =
+    let found : IsLeastOpen c.least_open.new.self.entries c.in-Some.place c.in-Some.least = search rules in
+    let board = c.args.pruner.now.board in
+    let cap = c.args.pruner.now.cap in
+    let searched = subst (λ (v : VisitedView). IsSearchOnBoard board cap v) (sym c.least_open.ensures.same) c.loop-desk.invariant.searched in
+    let level : IsLevel board = subst (λ (b : Board). IsLevel b) c.level.ensures c.tell.ensures in
+    floor_then board cap c.least_open.new.self.entries c.in-Some.place c.in-Some.least c.loop-desk.reach c.max.result c.max.ensures level
+    searched.under_way found c.loop-desk.invariant.floor
+
+pub note-requires : goal.note-requires
+note-requires g c =
+    let found : IsLeastOpen c.least_open.new.self.entries c.in-Some.place c.in-Some.least = search rules in
+    let board = c.args.pruner.now.board in
+    let cap = c.args.pruner.now.cap in
+    let searched = subst (λ (v : VisitedView). IsSearchOnBoard board cap v) (sym c.least_open.ensures.same) c.loop-desk.invariant.searched in
+    let level : IsLevel board = subst (λ (b : Board). IsLevel b) c.level.ensures c.tell.ensures in
+    let floor = floor_then board cap c.least_open.new.self.entries c.in-Some.place c.in-Some.least c.loop-desk.reach c.max.result c.max.ensures level
+    searched.under_way found c.loop-desk.invariant.floor in
+    subst (λ (b : Board). NoneHasFewer b c.max.result) (sym c.level-in-Some.ensures) floor.0

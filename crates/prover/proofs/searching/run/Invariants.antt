@@ -1,5 +1,5 @@
-use Rattle.std.proofs.Common.{◌≡◌, ◌+◌, length, cond, nat_lt}
-use Rattle.prover.specs.Fewest.{NoneHasFewer}
+use Rattle.std.proofs.Common.{◌+◌, length, cond, nat_lt}
+use Rattle.prover.specs.inside.SearchEnds.{IsFloor}
 use Rattle.prover.specs.inside.Rounds.{IsDesk}
 use Rattle.prover.specs.inside.Working.{IsSearchOnBoard, turns_left}
 use Rattle.prover.proofs.searching.run.Given as goal
@@ -7,8 +7,8 @@ use Rattle.prover.proofs.searching.run.Given as goal
 abbrev pub invariant-loop-desk : goal.invariant-loop-desk
 invariant-loop-desk g l = record {
   searched : IsSearchOnBoard l.pruner.board l.pruner.cap l.frontier;
-  told : NoneHasFewer l.pruner.board l.reach;
-  desk : IsDesk l.pruner l.desk;
+  floor : IsFloor l.pruner.board l.pruner.cap l.reach;
+  desk : IsDesk l.pruner l.frontier.entries l.desk;
 }
 
 abbrev pub decreases-loop-desk : goal.decreases-loop-desk

@@ -1,12 +1,11 @@
-use Rattle.std.proofs.Common.{◌∙◌, refl, subst, sym, arith}
+use Rattle.std.proofs.Common.{◌∙◌, refl, subst, sym}
 use Rattle.successors.specs.Tasks.{Task}
-use Rattle.prover.specs.Fewest.{NoneHasFewer}
-use Rattle.prover.specs.inside.SearchEnds.{Tells}
+use Rattle.prover.specs.inside.SearchEnds.{IsFloor, Tells}
 use Rattle.prover.specs.inside.Working.{IsSearchOnBoard}
 use Rattle.prover.proofs.searching.run_all.Goals as goal
 
 pub loop-first-init : goal.loop-first-init
-loop-first-init g c = record { same = refl; searched = c.requires.searched; told = λ ds ps solution. omega arith }
+loop-first-init g c = record { same = refl; searched = c.requires.searched; floor = c.requires.floor }
 
 pub loop-first-preserved : goal.loop-first-preserved
 loop-first-preserved g c =
@@ -14,10 +13,26 @@ loop-first-preserved g c =
     record {
       same = c.add_tables.ensures ∙ c.loop-first.invariant.same;
       searched = subst (λ (v : Task). IsSearchOnBoard v.board v.cap c.run.new.frontier) same c.in_ok-end.ensures.searched;
-      told = subst (λ (v : Task). NoneHasFewer v.board c.in-Some.least) same (c.in-Some.ensures.some _ _ _ _ c.in_ok-end.ensures.tells);
+      floor = subst (λ (v : Task). IsFloor v.board v.cap c.run.new.reach) same c.in_ok-end.ensures.floor;
     }
 
-pub returns-in_default-clause-tells : goal.returns-in_default-clause-tells
-returns-in_default-clause-tells g c =
+pub returns-then-decided-clause-tells : goal.returns-then-decided-clause-tells
+returns-then-decided-clause-tells g c =
     subst (λ (v : Task). Tells v.board v.cap c.args.limit c.run.new.frontier.entries c.in_ok-end.end) c.loop-first.invariant.same
-    (c.in_default.ensures.none _ _ _ c.args.limit _ c.in_ok-end.ensures.tells)
+    (c.is_decided-decided.ensures c.if-decided.true _ _ _ c.args.limit _ c.in_ok-end.ensures.tells)
+
+pub returns-then-decided-clause-floor : goal.returns-then-decided-clause-floor
+returns-then-decided-clause-floor g c =
+    subst (λ (v : Task). IsFloor v.board v.cap c.run.new.reach) c.loop-first.invariant.same c.run.ensures.floor
+
+pub returns-in_err-end-clause-floor : goal.returns-in_err-end-clause-floor
+returns-in_err-end-clause-floor g c =
+    subst (λ (v : Task). IsFloor v.board v.cap c.run.new.reach) c.loop-first.invariant.same c.run.ensures.floor
+
+pub returns-in_err-add_tables-clause-floor : goal.returns-in_err-add_tables-clause-floor
+returns-in_err-add_tables-clause-floor g c =
+    subst (λ (v : Task). IsFloor v.board v.cap c.run.new.reach) c.loop-first.invariant.same c.run.ensures.floor
+
+pub returns-clause-floor : goal.returns-clause-floor
+returns-clause-floor g c =
+    subst (λ (v : Task). IsFloor v.board v.cap c.run-2.new.reach) c.loop-first.invariant.same c.run-2.ensures.floor

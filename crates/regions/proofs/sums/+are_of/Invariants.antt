@@ -2,4 +2,4 @@ use Rattle.std.proofs.Common.{length}
 use Rattle.regions.proofs.sums.+are_of.Given as goal
 
 abbrev pub decreases-are_of : goal.decreases-are_of
-decreases-are_of l = length l.tasks.now
+decreases-are_of l = length l.jobs.now

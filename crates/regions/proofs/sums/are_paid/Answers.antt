@@ -10,7 +10,7 @@ use Rattle.regions.proofs.sums.are_paid.Goals as goal
 
 pub loop-index-preserved : goal.loop-index-preserved
 loop-index-preserved c =
-    below_next (λ p. (d : Dir) → IsPaid c.args.level.now (far_in c.args.distances.now.table) (need_under c.args.distances.now c.args.tolls.now) (parts_of c.args.tasks.now) p d)
+    below_next (λ p. (d : Dir) → IsPaid c.args.level.now (far_in c.args.distances.now.table) (need_under c.args.distances.now c.args.tolls.now) (parts_of c.args.jobs.now) p d)
     c.loop-index.index c.loop-index.invariant (c.are_paid_from.ensures c.if-not-are_paid_from.false)
 
 pub returns : goal.returns

@@ -8,4 +8,4 @@ use Rattle.regions.proofs.sums.are_paid.Given as goal
 
 abbrev pub invariant-loop-index : goal.invariant-loop-index
 invariant-loop-index l = (p : ℕ) → p < l.index → (d : Dir)
-    → IsPaid l.level (far_in l.distances.table) (need_under l.distances l.tolls) (parts_of l.tasks) p d
+    → IsPaid l.level (far_in l.distances.table) (need_under l.distances l.tolls) (parts_of l.jobs) p d

@@ -8,7 +8,7 @@ invariant-loop-from l = record {
   reading : (total : ℕ) × (slice_get l.rests 0 ≡ Some (Some total)) × IsReading l.states.board l.states.entries l.rests total l.place l.pushes.items;
   few : length l.pushes.items ≤ l.states.most;
   size : l.tools.scratch.size ≡ length l.states.board.cells;
-  room : length l.tools.walks.lengths.items ≡ length l.states.board.cells;
+  room : length l.tools.walks ≡ length l.states.board.cells;
 }
 
 abbrev pub decreases-loop-from : goal.decreases-loop-from

@@ -7,7 +7,7 @@ invariant-loop-place l = record {
   within : l.place ≤ length l.states.entries;
   rests : AreRests l.states.board l.states.most l.place l.states.entries l.rests.items;
   size : l.tools.scratch.size ≡ length l.states.board.cells;
-  room : length l.tools.walks.lengths.items ≡ length l.states.board.cells;
+  room : length l.tools.walks ≡ length l.states.board.cells;
 }
 
 abbrev pub decreases-loop-place : goal.decreases-loop-place

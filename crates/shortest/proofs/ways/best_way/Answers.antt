@@ -4,6 +4,7 @@ use Rattle.std.proofs.lemmas.Option.{none-some, slice_get_read}
 use Rattle.grid.specs.Board.{Board}
 use Rattle.grid.specs.States.{FitsLevel}
 use Rattle.area.specs.Pushes.{ArePushes}
+use Rattle.area.specs.WalkLengths.{AreWalkLengths}
 use Rattle.shortest.specs.inside.Resting.{moves_of}
 use Rattle.shortest.proofs.Layering.{read_push}
 use Rattle.shortest.proofs.Onward.{best_is, least_more, onward_fits, ways_if, ways_more}
@@ -16,6 +17,15 @@ possible_pushes-requires-clause-fits c =
 
 pub possible_pushes-requires-clause-room : goal.possible_pushes-requires-clause-room
 possible_pushes-requires-clause-room c = c.requires.size ∙ sym (ap (λ (b : Board). length b.cells) c.level.ensures)
+
+pub measure-requires-clause-fits : goal.measure-requires-clause-fits
+measure-requires-clause-fits c =
+    subst (λ (b : Board). FitsLevel b c.args.from.now.state) (sym c.level-2.ensures)
+    (onward_fits c.args.states.now c.args.rests.now c.args.from.now.pushes c.args.from.now.state c.tell.ensures c.requires.onward)
+
+pub way_by-way-requires-clause-measured : goal.way_by-way-requires-clause-measured
+way_by-way-requires-clause-measured c =
+    subst (λ (b : Board). AreWalkLengths b c.args.from.now.state c.measure.new.self) c.level-2.ensures c.measure.ensures.lengths
 
 pub returns-clause-way : goal.returns-clause-way
 returns-clause-way c =
@@ -56,7 +66,6 @@ loop-index-preserved c =
     (omega (arith, same, long, c.loop-index-test.true)) c.index-deref-index.is in
     record {
       size = was.size;
-      ready = c.way_by-way.ensures.ready;
       ways = ways_more v.board v.entries c.args.rests.now k s c.loop-index.best c.way_by-way.result
           c.lesser-best.result c.lesser-best.ensures.one was.ways c.way_by-way.ensures.way;
       least = λ m sum. least_more v.board m s items c.loop-index.index p

@@ -5,5 +5,5 @@ use Rattle.shortest.proofs.lemmas.Fewest.{some_has}
 use Rattle.sokopar.proofs.moves.best_solution.Goals as goal
 
 pub search_fewest-requires-clause-some : goal.search_fewest-requires-clause-some
-search_fewest-requires-clause-some g c =
+search_fewest-requires-clause-some c =
     some_has c.args.level.now c.args.moves (Solved c.args.pushes (length c.args.moves)) c.args.pushes (length c.args.moves) refl c.requires.solved

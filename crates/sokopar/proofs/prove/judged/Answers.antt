@@ -1,7 +1,7 @@
 -- A search for two pushes less decides, and below two pushes none is needed.
 use Rattle.std.proofs.Common.{arith, Some}
 use Rattle.shortest.proofs.lemmas.Fewest.{none_has_fewer}
-use Rattle.sokopar.proofs.Judging.{judged_limit, least_of}
+use Rattle.sokopar.proofs.Judging.{limit_bounds, least_of}
 use Rattle.sokopar.proofs.prove.judged.Goals as goal
 
 pub with_fewest_pushes-requires-clause-fewest : goal.with_fewest_pushes-requires-clause-fewest
@@ -14,22 +14,28 @@ with_fewest_pushes-requires-in-Ok-NoneWithin-clause-fewest g c =
     c.requires.some c.in-Ok-NoneWithin.ensures.outcome c.in-Ok-NoneWithin.field-0-is (omega (arith, c.if-given-lt2.false))
 
 pub with_more_pushes-requires-clause-solved : goal.with_more_pushes-requires-clause-solved
-with_more_pushes-requires-clause-solved g c κs within =
+with_more_pushes-requires-clause-solved g c =
     (least_of (Some _) c.args.request.limit c.args.level.now c.in-Ok-Least.field-0 c.in-Ok-Least.moves c.in-Ok-Least.pushes c.in-Ok-Least.ensures.outcome
     c.in-Ok-Least.field-0-is).0
 
 pub with_more_pushes-requires-clause-fewest : goal.with_more_pushes-requires-clause-fewest
-with_more_pushes-requires-clause-fewest g c κs within =
+with_more_pushes-requires-clause-fewest g c =
     (least_of (Some _) c.args.request.limit c.args.level.now c.in-Ok-Least.field-0 c.in-Ok-Least.moves c.in-Ok-Least.pushes c.in-Ok-Least.ensures.outcome
     c.in-Ok-Least.field-0-is).1
 
 pub with_more_pushes-requires-clause-fewer : goal.with_more_pushes-requires-clause-fewer
-with_more_pushes-requires-clause-fewer g c κs within =
+with_more_pushes-requires-clause-fewer g c =
     let bound = (least_of (Some _) c.args.request.limit c.args.level.now c.in-Ok-Least.field-0 c.in-Ok-Least.moves c.in-Ok-Least.pushes
     c.in-Ok-Least.ensures.outcome c.in-Ok-Least.field-0-is).2 in
     omega (arith, bound, c.if-given-lt2.false)
 
-pub returns-in-Ok-Limit : goal.returns-in-Ok-Limit
-returns-in-Ok-Limit g c =
-    judged_limit c.args.request.moves c.args.request.limit _ c.args.level.now c.args.given.pushes c.args.given.moves c.in-Ok-Limit.at_least
-    c.in-Ok-Limit.field-0 c.undecided.result c.in-Ok-Limit.ensures.few c.in-Ok-Limit.ensures.outcome c.in-Ok-Limit.field-0-is c.undecided.ensures
+pub with_open_pushes-requires-clause-open : goal.with_open_pushes-requires-clause-open
+with_open_pushes-requires-clause-open g c =
+    (limit_bounds c.args.request.limit _ c.args.level.now c.in-Ok-Limit.at_least c.in-Ok-Limit.field-0 c.in-Ok-Limit.ensures.outcome
+    c.in-Ok-Limit.field-0-is).0
+
+pub with_open_pushes-requires-clause-bound : goal.with_open_pushes-requires-clause-bound
+with_open_pushes-requires-clause-bound g c =
+    let most = (limit_bounds c.args.request.limit _ c.args.level.now c.in-Ok-Limit.at_least c.in-Ok-Limit.field-0 c.in-Ok-Limit.ensures.outcome
+    c.in-Ok-Limit.field-0-is).1 in
+    omega (arith, most, c.if-given-lt2.false)

@@ -1,6 +1,6 @@
 -- Without the option the moves are counted; with it the search for the fewest decides, or ends at its limit.
 use Rattle.std.proofs.Common.{rules, ◌≡◌, false, true}
-use Rattle.sokopar.specs.declared.moves.MovesClaim.TheVariants.{Counted, Open}
+use Rattle.sokopar.specs.declared.moves.MovesClaim.TheVariants.{Counted}
 use Rattle.sokopar.proofs.Judging.{claim_counted, claim_open, judged_optimal}
 use Rattle.sokopar.proofs.prove.with_fewest_pushes.Goals as goal
 
@@ -12,11 +12,9 @@ returns-then-not-request c =
     judged_optimal request.moves request.limit c.args.level.now given.pushes given.moves Counted c.optimal.result c.requires.fewest
     (claim_counted request.moves request.limit c.args.level.now given.pushes given.moves not_wanted) c.optimal.ensures
 
-pub returns-in-Limit : goal.returns-in-Limit
-returns-in-Limit c =
+pub with_open_moves-requires-clause-open : goal.with_open_moves-requires-clause-open
+with_open_moves-requires-clause-open c =
     let request = c.args.request in
     let given = c.args.given in
     let wanted : request.moves ≡ true = search rules in
-    judged_optimal request.moves request.limit c.args.level.now given.pushes given.moves Open c.optimal-in-Limit.result c.requires.fewest
-    (claim_open request.moves request.limit c.args.level.now given.pushes given.moves c.in_ok-outcome.outcome wanted c.in_ok-outcome.ensures c.in-Limit.is)
-    c.optimal-in-Limit.ensures
+    claim_open request.moves request.limit c.args.level.now given.pushes given.moves c.in_ok-outcome.outcome wanted c.in_ok-outcome.ensures c.in-Limit.is

@@ -4,7 +4,7 @@ use Rattle.sokopar.proofs.Judging.{judged_beaten}
 use Rattle.sokopar.proofs.prove.with_more_pushes.Goals as goal
 
 pub returns : goal.returns
-returns g c =
+returns c =
     let request = c.args.request in
     let given = c.args.given in
     let best = c.in_ok-best.best in

@@ -1,6 +1,6 @@
-use Rattle.std.proofs.Common.{◌∙◌, sym}
+use Rattle.std.proofs.Common.{◌∙◌, sym, arith}
 use Rattle.std.proofs.lemmas.Bool.{true≢false}
-use Rattle.prover.proofs.Steps.{none_lost, none_over}
+use Rattle.prover.proofs.Steps.{bound_rounded, none_lost, none_over}
 use Rattle.prover.proofs.pruner.Pruner.allowed_total.Goals as goal
 
 pub returns-in_default-clause-none : goal.returns-in_default-clause-none
@@ -9,12 +9,15 @@ returns-in_default-clause-none c =
 
 pub returns-then-not-allowed-clause-none : goal.returns-then-not-allowed-clause-none
 returns-then-not-allowed-clause-none c =
-    none_over c.args.self.now.board c.args.self.now.cap c.args.pushes c.in-Some.total c.args.position.now c.in-Some.ensures.bound.1
+    none_over c.args.self.now.board c.args.self.now.cap c.args.pushes c.rounded-total.result c.args.position.now
+    (bound_rounded c.args.self.now.board c.args.pushes c.in-Some.total c.rounded-total.result c.args.position.now c.requires.reached
+    c.rounded-total.ensures.least c.in-Some.ensures.bound.1)
     (λ ok. true≢false (sym (c.allows-allowed.ensures.1 ok) ∙ c.if-not-allowed.true))
 
 pub returns-clause-total : goal.returns-clause-total
 returns-clause-total c = record {
-  near = c.in-Some.ensures.bound.0;
+  near = (let near = c.in-Some.ensures.bound.0 in let up = c.rounded-total.ensures.near in omega (arith, near, up));
   allowed = c.allows-allowed.ensures.0 c.if-not-allowed.false;
-  bound = c.in-Some.ensures.bound.1;
+  bound = bound_rounded c.args.self.now.board c.args.pushes c.in-Some.total c.rounded-total.result c.args.position.now c.requires.reached
+      c.rounded-total.ensures.least c.in-Some.ensures.bound.1;
 }

@@ -1,0 +1,8 @@
+-- Clap's first value of a name is the first text of the argument that has it.
+use Rattle.std.proofs.Common.{◌∙◌}
+use Rattle.clap.proofs.WalkLemmas.{first_value-rows}
+use Rattle.clap.specs.Matches.{found_of}
+use Rattle.cli.proofs.numbers.given.Goals as goal
+
+pub returns : goal.returns
+returns c = c.get_str.ensures ∙ first_value-rows (found_of c.args.matches.now) c.args.name.now

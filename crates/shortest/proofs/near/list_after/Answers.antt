@@ -1,0 +1,20 @@
+use Rattle.std.proofs.Common.{◌<◌, length, sym, subst}
+use Rattle.grid.specs.Board.{Board}
+use Rattle.grid.proofs.lemmas.Steps.{inside_grid}
+use Rattle.store.proofs.lemmas.Fitting.{level_fits}
+use Rattle.shortest.proofs.near.list_after.Goals as goal
+
+pub next-ahead-requires : goal.next-ahead-requires
+next-ahead-requires c =
+    subst (λ (b : Board). c.args.push.square < length b.cells) (sym c.level.ensures)
+    (inside_grid c.args.bounds.now.board c.args.push.square (c.requires.fits.scene.boxes c.args.push.square c.requires.possible.there))
+
+pub next-behind-requires : goal.next-behind-requires
+next-behind-requires c =
+    subst (λ (b : Board). c.args.push.square < length b.cells) (sym c.level-2.ensures)
+    (inside_grid c.args.bounds.now.board c.args.push.square (c.requires.fits.scene.boxes c.args.push.square c.requires.possible.there))
+
+pub enter_since-requires : goal.enter_since-requires
+enter_since-requires c =
+    level_fits c.args.bounds.now.board c.args.listed.now.boxes c.args.listed.now.squares c.in-Some-after.after
+    c.requires.list.boxes c.requires.list.squares c.in-Some-after.ensures.after.1

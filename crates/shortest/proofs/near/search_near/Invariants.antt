@@ -1,0 +1,8 @@
+use Rattle.shortest.specs.inside.Nearby.{IsListFor, IsMemoryFor}
+use Rattle.shortest.proofs.near.search_near.Given as goal
+
+abbrev pub invariant-loop-pushes : goal.invariant-loop-pushes
+invariant-loop-pushes l = record {
+  ready : IsMemoryFor l.bounds.board l.memory;
+  list : IsListFor l.bounds.board l.listed;
+}

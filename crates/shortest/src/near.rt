@@ -1,0 +1,380 @@
+//! Searches the states near a solution for a better one.
+//!
+//! The search goes by layers: layer k has states after k pushes, each with the fewest moves that it found for it. A
+//! state is listed if few of its boxes are elsewhere than in some position of the solution round the layer, and if the
+//! bounds allow its pushes. Of a layer it expands the states of the best ranks, and always that of the solution. This
+//! is a guess: the contracts say no more than that the calls are safe.
+ghost use Rattle.std.specs.Prelude.{◌≡◌, ◌≤◌, IfOk, Some};
+ghost use Rattle.grid.specs.Lawful.{box_count};
+ghost use Rattle.grid.specs.States.{FitsLevel};
+ghost use Rattle.area.specs.Pushes.{CanPush};
+ghost use Rattle.store.specs.FoundView.{FitsGrid};
+ghost use Rattle.successors.specs.Expanding.{HasPushesOf};
+ghost use Rattle.shortest.specs.inside.Nearby.{IsListFor, IsMemoryFor};
+
+use crate::bounds::Bounds;
+use crate::improving::Aim;
+use crate::listing::{Workspace, state_after};
+use crate::states::{Reached, reached_at};
+use crate::trail::{Nearness, Trail, Vicinity};
+use area::Walks;
+use grid::{Level, MAX_BOXES, Position, Push};
+use prices::{Matching, Slack};
+use std::alloc::{AllocError, Global};
+use store::{Label, Parent, Visited};
+use successors::Problem;
+
+/// The rank of a state rises by this much with each box that is elsewhere, if moves are counted.
+const DISPLACED_MOVES: u32 = 10;
+
+/// The rank of a state rises by this much with each box that is elsewhere and with each push that is left, if pushes
+/// are counted: more than the moves of two states with as many pushes mostly differ by.
+const RANK_PUSHES: u32 = 1_000;
+
+/// More than the moves of any solution.
+const RANK_BASE: u32 = 1 << 21;
+
+/// What a search may list.
+#[derive(Clone, Copy)]
+pub(crate) struct Form {
+    pub(crate) aim: Aim,
+    /// The most boxes of a state that are elsewhere than in a position of the solution.
+    pub(crate) displaced: u32,
+    /// The most states of a layer that are expanded.
+    pub(crate) width: usize,
+    /// The most states that are listed.
+    pub(crate) states: usize,
+}
+
+/// How a search ended: with the pushes of a solution, or without; the number of listed states; and whether the width
+/// kept it from expanding some of them.
+#[derive(Drop)]
+pub(crate) struct Find {
+    pub(crate) pushes: Option<Vec<Push>>,
+    pub(crate) listed: usize,
+    pub(crate) is_cut: bool,
+}
+
+impl Find {
+    /// Nothing was searched.
+    pub(crate) fn none() -> Find {
+        Find {
+            pushes: None,
+            listed: 0,
+            is_cut: false,
+        }
+    }
+}
+
+/// Memory to expand states.
+#[derive(Drop)]
+pub(crate) struct Memory<'a> {
+    workspace: Workspace<'a>,
+    walks: Walks,
+}
+
+impl<'a> Memory<'a> {
+    /// The memory for a problem. Fails only if out of memory.
+    pub(crate) fn new(alloc: Global, problem: &'a Problem) -> Result<Memory<'a>, AllocError>
+        ensures { IfOk result (λ memory. IsMemoryFor problem.now.board memory) }
+    {
+        Ok(Memory {
+            workspace: Workspace::new(alloc, problem)?,
+            walks: Walks::new(alloc, problem.level())?,
+        })
+    }
+}
+
+/// A layer: what it may list, the positions of the solution round it, the pushes before it and those that are left, and
+/// the place of its first state.
+#[derive(Drop)]
+struct Layer<'a> {
+    form: Form,
+    vicinity: &'a Vicinity,
+    pushes: u32,
+    left: u32,
+    begin: usize,
+}
+
+/// Searches for a solution with at most as many pushes as the bounds say. Fails only if out of memory.
+pub(crate) fn search_near(
+    alloc: Global,
+    bounds: &Bounds<'_>,
+    start: &Position,
+    trail: &Trail,
+    form: Form,
+    memory: &mut Memory<'_>,
+) -> Result<Find, AllocError>
+    requires fits { FitsLevel bounds.now.board start.now }
+    requires few { box_count bounds.now.board ≤ MAX_BOXES }
+    requires ready { IsMemoryFor bounds.now.board memory.old }
+    ensures ready { IsMemoryFor bounds.now.board memory.new }
+{
+    let level = bounds.level();
+    let most = bounds.most();
+    let mut listed = Visited::of(alloc, level.boxes(), level.squares());
+    let _ = listed.enter(start, label_of(0, 0, None))?;
+    let mut vicinity = Vicinity::of(alloc, level, trail)?;
+    let mut ranked = vec![in alloc; (0, 0); 1]?;
+    let mut is_cut = false;
+    for pushes in 1..=most {
+        vicinity.go_to(trail, pushes as usize);
+        let begin = listed.len();
+        let layer = Layer {
+            form,
+            vicinity: &vicinity,
+            pushes,
+            left: most - pushes,
+            begin,
+        };
+        expand_all(bounds, &layer, ranked.as_slice(), &mut listed, memory)?;
+        if let Some(place) = solved_since(level, &listed, begin) {
+            let pushes = Some(pushes_to(alloc, &listed, place)?);
+            let listed = listed.len();
+            return Ok(Find {
+                pushes,
+                listed,
+                is_cut,
+            });
+        }
+        if listed.len() == begin || listed.len() >= form.states {
+            break;
+        }
+        ranked = ranks_since(alloc, trail, &layer, &listed)?;
+        is_cut |= ranked.len() > form.width;
+        ranked.truncate(form.width);
+    }
+    Ok(Find {
+        pushes: None,
+        listed: listed.len(),
+        is_cut,
+    })
+}
+
+// Lists the states after those at some places, until there are as many as the form allows.
+fn expand_all(
+    bounds: &Bounds<'_>,
+    layer: &Layer<'_>,
+    ranked: &[(u32, usize)],
+    listed: &mut Visited,
+    memory: &mut Memory<'_>,
+) -> Result<(), AllocError>
+    requires ready { IsMemoryFor bounds.now.board memory.old }
+    requires list { IsListFor bounds.now.board listed.old }
+    ensures ready { IsMemoryFor bounds.now.board memory.new }
+    ensures list { IsListFor bounds.now.board listed.new }
+{
+    for row in ranked {
+        let (_, place) = *row;
+        if place >= listed.len() || listed.len() >= layer.form.states {
+            break;
+        }
+        let from = reached_at(listed, place);
+        if from.state.fits(bounds.level()) {
+            expand(bounds, layer, &from, place, listed, memory)?;
+        }
+    }
+    Ok(())
+}
+
+// Lists the states after each push of the state at a place. The state's number of pushes is that of its moves.
+fn expand(
+    bounds: &Bounds<'_>,
+    layer: &Layer<'_>,
+    from: &Reached,
+    place: usize,
+    listed: &mut Visited,
+    memory: &mut Memory<'_>,
+) -> Result<(), AllocError>
+    requires fits { FitsLevel bounds.now.board from.now.state }
+    requires ready { IsMemoryFor bounds.now.board memory.old }
+    requires list { IsListFor bounds.now.board listed.old }
+    ensures ready { IsMemoryFor bounds.now.board memory.new }
+    ensures list { IsListFor bounds.now.board listed.new }
+{
+    memory.workspace.expander.find_pushes(&from.state);
+    memory.walks.measure(bounds.level(), &from.state);
+    memory.workspace.matching = Matching::new();
+    bounds
+        .distances()
+        .meet(&from.state, &mut memory.workspace.matching);
+    let slack = Slack::of(
+        bounds.distances(),
+        &from.state,
+        Some(layer.left),
+        &memory.workspace.matching,
+    );
+    for index in 0..memory.workspace.expander.pushes().len() {
+        let push = memory.workspace.expander.pushes()[index];
+        list_after(bounds, layer, from, place, push, &slack, listed, memory)?;
+    }
+    Ok(())
+}
+
+// Lists the state after a push, if it is near the solution, the bounds allow it, and no layer before has it.
+fn list_after(
+    bounds: &Bounds<'_>,
+    layer: &Layer<'_>,
+    from: &Reached,
+    place: usize,
+    push: Push,
+    slack: &Slack<'_>,
+    listed: &mut Visited,
+    memory: &mut Memory<'_>,
+) -> Result<(), AllocError>
+    requires fits { FitsLevel bounds.now.board from.now.state }
+    requires ready { IsMemoryFor bounds.now.board memory.old }
+    requires found { HasPushesOf memory.old.workspace.expander from.now.state }
+    requires possible { CanPush bounds.now.board from.now.state push }
+    requires slack { (slack.now.board ≡ bounds.now.board) × (slack.now.scene ≡ from.now.state) ×
+        (slack.now.left ≡ Some layer.now.left) }
+    requires list { IsListFor bounds.now.board listed.old }
+    ensures ready { IsMemoryFor bounds.now.board memory.new }
+    ensures kept { memory.new.workspace.expander ≡ memory.old.workspace.expander }
+    ensures list { IsListFor bounds.now.board listed.new }
+{
+    let Push { square, dir } = push;
+    let ahead = bounds.level().next(square, dir);
+    let behind = bounds.level().next(square, dir.opposite());
+    let boxes = from.state.boxes();
+    let Some(nearness) = layer
+        .vicinity
+        .nearness(boxes, square, ahead, layer.form.displaced)
+    else {
+        return Ok(());
+    };
+    let after = state_after(
+        bounds,
+        from,
+        layer.left,
+        Push { square, dir },
+        slack,
+        &mut memory.workspace,
+    );
+    let Some(after) = after else {
+        return Ok(());
+    };
+    let walk = memory.walks.length_to(behind);
+    let moves = from.pushes.saturating_add(walk).saturating_add(1);
+    let rank = rank_of(
+        bounds,
+        layer.form.aim,
+        nearness,
+        &after,
+        &mut memory.workspace,
+    );
+    let parent = Parent {
+        place: u32::try_from(place).unwrap_or(u32::MAX),
+        push: Push { square, dir },
+    };
+    enter_since(
+        layer.begin,
+        &after,
+        label_of(moves, rank, Some(parent)),
+        listed,
+    )
+}
+
+// Enters a state, if no layer before has it, or gives it a label with fewer moves.
+fn enter_since(
+    begin: usize,
+    state: &Position,
+    label: Label,
+    listed: &mut Visited,
+) -> Result<(), AllocError>
+    requires { FitsGrid listed.old.boxes listed.old.squares state.now }
+    ensures { (listed.new.boxes ≡ listed.old.boxes) × (listed.new.squares ≡ listed.old.squares) }
+{
+    if let Some(known) = listed.find(state) {
+        if known < begin {
+            return Ok(());
+        }
+    }
+    let _ = listed.enter(state, label)?;
+    Ok(())
+}
+
+// The label of a state: its moves, what its rank has beside them, and the push before it.
+fn label_of(moves: u32, rank: u32, parent: Option<Parent>) -> Label {
+    Label {
+        pushes: moves,
+        least: Some(rank),
+        parent,
+    }
+}
+
+// What the rank of a state has beside its moves: the less, the better.
+fn rank_of(
+    bounds: &Bounds<'_>,
+    aim: Aim,
+    nearness: Nearness,
+    state: &Position,
+    workspace: &mut Workspace<'_>,
+) -> u32
+    requires { FitsLevel bounds.now.board state.now }
+    ensures { workspace.new.expander ≡ workspace.old.expander }
+{
+    let displaced = nearness.displaced;
+    match aim {
+        Aim::FewerMoves => {
+            (RANK_BASE + DISPLACED_MOVES * displaced.min(2)).saturating_sub(nearness.walked)
+        }
+        Aim::FewerPushes => {
+            let low = bounds
+                .distances()
+                .lower(state, &mut workspace.next_matching);
+            let low = u32::try_from(low).unwrap_or(u32::MAX);
+            low.saturating_add(displaced).saturating_mul(RANK_PUSHES)
+        }
+    }
+}
+
+// The place of the solved state with the fewest moves among those from a place on.
+fn solved_since(level: &Level, listed: &Visited, begin: usize) -> Option<usize> {
+    let mut best = None;
+    let mut fewest = u32::MAX;
+    for place in begin..listed.len() {
+        let moves = listed.label(place).pushes;
+        if moves < fewest && level.are_on_goals(listed.position(place).boxes()) {
+            best = Some(place);
+            fewest = moves;
+        }
+    }
+    best
+}
+
+// The states of a layer by rising rank, with their places. That of the solution comes first.
+fn ranks_since(
+    alloc: Global,
+    trail: &Trail,
+    layer: &Layer<'_>,
+    listed: &Visited,
+) -> Result<Vec<(u32, usize)>, AllocError> {
+    let mut ranked = Vec::new(alloc);
+    for place in layer.begin..listed.len() {
+        let label = listed.label(place);
+        let rank = label.pushes.saturating_add(label.least.unwrap_or(0));
+        let is_own = trail.passes(layer.pushes as usize, &listed.position(place));
+        ranked.push((if is_own { 0 } else { rank }, place))?;
+    }
+    ranked.sort_unstable();
+    Ok(ranked)
+}
+
+// The pushes that lead to the state at a place.
+fn pushes_to(alloc: Global, listed: &Visited, place: usize) -> Result<Vec<Push>, AllocError> {
+    let mut pushes = Vec::new(alloc);
+    let mut here = place;
+    for _ in 0..listed.len() {
+        if here >= listed.len() {
+            break;
+        }
+        let Some(parent) = listed.label(here).parent else {
+            break;
+        };
+        pushes.push(parent.push)?;
+        here = parent.place as usize;
+    }
+    pushes.reverse();
+    Ok(pushes)
+}

@@ -1,0 +1,44 @@
+-- What is written of a report, whole or without its first line.
+use Rattle.std.proofs.Common.{ℕ, Bool, true, false, List, Option, Result, Ok, Err, refl}
+use Rattle.sokopar.specs.Ends.{Seen}
+use Rattle.sokopar.specs.Report.{Report, IsWrittenOf, Written, WrittenOfTwo}
+use Rattle.sokopar.specs.Runs.{ReadsIfSome, ReadsWhole, Runs, RunsInTwo}
+use Rattle.sokopar.specs.declared.fault.RunFault.{RunFault}
+use Rattle.sokopar.specs.declared.fault.RunFault.TheVariants.{Read, Write, TooLong, OutOfMemory}
+use Rattle.sokopar.specs.inside.Sending.{Sends, as_written}
+
+right : (lurd : Bool) (IsReport : Report → Type 0) (report : Report) → IsReport report
+    → IsWrittenOf lurd IsReport (as_written lurd report)
+right false IsReport report is = is
+right true IsReport report is = (report, is, refl)
+
+pub run_written : (lurd : Bool) (IsReport : List ℕ → Report → Type 0) (source read sink written : Seen)
+    (bytes : List ℕ) (report : Report) (result : Result ℕ RunFault) → ReadsWhole source read bytes
+    → IsReport bytes report → Sends (as_written lurd report) sink written result
+    → Runs (Written lurd IsReport) source read sink written result
+run_written lurd IsReport source read sink written bytes report (Ok status) whole is sends =
+    (bytes, as_written lurd report, whole, right lurd (IsReport bytes) report is, sends.0, sends.1)
+run_written lurd IsReport source read sink written bytes report (Err Write) whole is sends =
+    (bytes, as_written lurd report, whole, right lurd (IsReport bytes) report is, sends)
+run_written lurd IsReport source read sink written bytes report (Err Read) whole is sends = absurd sends
+run_written lurd IsReport source read sink written bytes report (Err TooLong) whole is sends = absurd sends
+run_written lurd IsReport source read sink written bytes report (Err OutOfMemory) whole is sends = absurd sends
+
+pub run_written_of_two : (lurd : Bool) (IsReport : List ℕ → Option (List ℕ) → Report → Type 0) (n : ℕ)
+    (source read second second_read sink written : Seen) (bytes : List ℕ) (solution : Option (List ℕ))
+    (report : Report) (result : Result ℕ RunFault) → ReadsWhole source read bytes
+    → ReadsIfSome second second_read solution → IsReport bytes solution report
+    → Sends (as_written lurd report) sink written result
+    → RunsInTwo (WrittenOfTwo lurd IsReport) n source read second second_read sink written result
+run_written_of_two lurd IsReport n source read second second_read sink written bytes solution report (Ok status) whole
+    reads is sends =
+    (bytes, solution, as_written lurd report, whole, reads, right lurd (IsReport bytes solution) report is, sends.0, sends.1)
+run_written_of_two lurd IsReport n source read second second_read sink written bytes solution report (Err Write) whole
+    reads is sends =
+    (bytes, solution, as_written lurd report, whole, reads, right lurd (IsReport bytes solution) report is, sends)
+run_written_of_two lurd IsReport n source read second second_read sink written bytes solution report (Err Read) whole
+    reads is sends = absurd sends
+run_written_of_two lurd IsReport n source read second second_read sink written bytes solution report (Err TooLong) whole
+    reads is sends = absurd sends
+run_written_of_two lurd IsReport n source read second second_read sink written bytes solution report (Err OutOfMemory)
+    whole reads is sends = absurd sends

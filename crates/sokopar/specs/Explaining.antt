@@ -1,0 +1,167 @@
+-- What explaining the levels of a collection writes: where and why each is faulty or cannot be solved.
+use Rattle.std.specs.Prelude.{◌≡◌, ℕ, zero, suc, ◌+◌, ◌-◌, ◌/◌, ◌%◌, ◌<◌, ◌⊎◌, Bool, true, false, cond, ◌&&◌, ◌==◌, nat_lt}
+use Rattle.std.specs.Prelude.{List, [], ◌∷◌, ◌++◌, length, take, map, flat_map, slice_get, Option, Some, None, is_some, is_none, codes, decimal}
+use Rattle.grid.specs.declared.dir.Dir.{Dir}
+use Rattle.grid.specs.declared.limits.TheConstants.{MAX_ROWS, MAX_COLS}
+use Rattle.grid.specs.Board.{Board, box_cell, goal_cell, player_cell, next, start}
+use Rattle.grid.specs.Lawful.{InRoom, IsLevel, row_count}
+use Rattle.grid.specs.Squares.{Squares, contains, places_from}
+use Rattle.doom.specs.Deadlocks.{IsDead, IsFrozen, Undoomed}
+use Rattle.xsb.specs.Breaks.{IsBroken}
+use Rattle.xsb.specs.Collection.{IsJudged}
+use Rattle.xsb.specs.Places.{IsBoardAt}
+use Rattle.xsb.specs.Rows.{cell_byte}
+use Rattle.xsb.specs.Written.{rows_from}
+use Rattle.xsb.specs.declared.breaks.BrokenRow.{BrokenRow}
+use Rattle.xsb.specs.declared.breaks.Cause.{Cause}
+use Rattle.xsb.specs.declared.breaks.Cause.TheVariants.{Byte, ZeroCount, LongCount, LooseCount}
+use Rattle.xsb.specs.declared.places.RowPlace.{RowPlace}
+use Rattle.sokopar.specs.Best.{IsUnsolvable}
+use Rattle.sokopar.specs.DeadMap.{marked_row}
+use Rattle.sokopar.specs.Listing.{Listed, IsLevelListing}
+use Rattle.sokopar.specs.Report.{Report, check_line, good_count, line, no_level}
+use Rattle.sokopar.specs.declared.remark.Remark.{Remark}
+use Rattle.sokopar.specs.declared.remark.Remark.TheVariants.{TooLarge, Players, Unequal, Exit, DeadBoxes, Frozen, Sound}
+use Rattle.sokopar.specs.declared.sentences.TheConstants.{MOST_PLACES}
+
+-- a line and a column of the file, which counts the bytes of a plain line; else that of a row of the board, spelled out
+abbrev pub place_words : ℕ → ℕ → Option RowPlace → List ℕ
+place_words row column None = []
+place_words row column (Some place) =
+    codes "line " ++ decimal place.line ++ codes ", column " ++ decimal column ++
+    cond place.plain [] (codes " of row " ++ decimal row)
+
+-- a sentence is indented
+unfoldable pub sentence : List ℕ → List ℕ
+sentence words = line (codes "  " ++ words)
+
+-- where a square of a board with these columns is, given the places of the rows; rows count from 1
+unfoldable pub sentence_at : List ℕ → ℕ → List RowPlace → ℕ → List ℕ
+sentence_at words cols places q = line
+    (codes "  " ++ words ++ codes " at " ++ place_words (q / cols + 1) (q % cols + 1) (slice_get places (q / cols)))
+
+-- how many more squares there are than were listed
+abbrev pub more_words : ℕ → List ℕ
+more_words zero = []
+more_words (suc n) = line (codes "  and " ++ decimal (suc n) ++ codes " more")
+
+-- a sentence for each of the squares, up to the most that are listed
+unfoldable pub sentences : List ℕ → ℕ → List RowPlace → Squares → List ℕ
+sentences words cols places squares =
+    flat_map (sentence_at words cols places) (take MOST_PLACES squares) ++ more_words (length squares - MOST_PLACES)
+
+-- the sentences of a remark
+abbrev pub remark_words : ℕ → List RowPlace → Remark → List ℕ
+remark_words cols places TooLarge = sentence (codes "it has more rows or columns than a level may have")
+remark_words cols places (Players squares) = sentences (codes "a player is") cols places squares.items
+remark_words cols places (Unequal boxes goals) =
+    sentences (codes "a box is") cols places boxes.items ++ sentences (codes "a goal is") cols places goals.items
+remark_words cols places (Exit q) = sentence_at (codes "the player gets out") cols places q
+remark_words cols places (DeadBoxes squares) =
+    sentences (codes "unsolvable: a box is on a dead square") cols places squares.items
+remark_words cols places (Frozen squares) =
+    sentence (codes "unsolvable: some of these boxes are frozen, not all of them on goals") ++
+    sentences (codes "a box is") cols places squares.items
+remark_words cols places Sound = sentence (codes "nothing found against it, which does not say that it can be solved")
+
+-- steps over squares that are no wall lead the player to the square, and the grid ends beside it
+abbrev pub IsExit : Board → ℕ → Type 0
+IsExit board q = InRoom board q × ((d : Dir) × (next board q d ≡ length board.cells))
+
+-- the remark is true of a board: all its players, or all its boxes and goals; or a square at the grid's edge that steps
+-- lead to, boxes ignored; or boxes on dead squares, or boxes some of which are frozen, so that no play solves the level
+abbrev pub IsTrueOf : Board → Remark → Type 0
+IsTrueOf board TooLarge = (MAX_ROWS < row_count board) ⊎ (MAX_COLS < board.cols)
+IsTrueOf board (Players squares) = squares.items ≡ places_from player_cell 0 board.cells
+IsTrueOf board (Unequal boxes goals) =
+    (boxes.items ≡ places_from box_cell 0 board.cells) × (goals.items ≡ places_from goal_cell 0 board.cells)
+IsTrueOf board (Exit q) = IsExit board q
+IsTrueOf board (DeadBoxes squares) = IsUnsolvable board ×
+    ((q : ℕ) → contains squares.items q ≡ true → (contains (start board).boxes q ≡ true) × IsDead board q)
+IsTrueOf board (Frozen squares) = IsUnsolvable board ×
+    ((q : ℕ) → contains squares.items q ≡ true → contains (start board).boxes q ≡ true) ×
+    ((members : Squares) × IsFrozen board squares.items members)
+IsTrueOf board Sound = IsLevel board × Undoomed board (start board)
+
+-- nothing was found
+abbrev pub is_sound : Remark → Bool
+is_sound Sound = true
+is_sound remark = false
+
+-- nothing was found, and no level is wanted by its number
+abbrev pub is_quiet : Remark → Option ℕ → Bool
+is_quiet remark wanted = is_sound remark && is_none wanted
+
+-- the board is shown: it is not too large, and the level is wanted by its number
+abbrev pub is_drawn : Remark → Option ℕ → Bool
+is_drawn TooLarge wanted = false
+is_drawn remark wanted = is_some wanted
+
+-- the board as it was read
+abbrev pub drawn : Board → List ℕ
+drawn board = flat_map marked_row (rows_from (row_count board) board.cols (map cell_byte board.cells))
+
+-- what is written of level n: `check`'s line, the remark, and the board
+abbrev pub level_text : Option ℕ → ℕ → Listed → Board → List RowPlace → Remark → List ℕ
+level_text wanted n listed board places remark = cond (is_quiet remark wanted) []
+    (check_line n listed ++ remark_words board.cols places remark ++ cond (is_drawn remark wanted) (drawn board) [])
+
+-- a byte in words
+abbrev pub byte_words : ℕ → List ℕ
+byte_words b = cond (b == 9) (codes "a tab") (cond (nat_lt 32 b && nat_lt b 127) (b ∷ []) (codes "value " ++ decimal b))
+
+-- why no item begins at a byte
+abbrev pub cause_words : Cause → List ℕ
+cause_words (Byte b) = codes ", " ++ byte_words b ++ codes ", is no cell"
+cause_words ZeroCount = codes " begins a count of 0"
+cause_words LongCount = codes " begins a count of too many digits"
+cause_words LooseCount = codes " begins a count that no cell follows"
+
+-- that nothing else parts two boards
+abbrev pub parts_words : Bool → List ℕ
+parts_words true = codes "; no other line is between two boards"
+parts_words false = []
+
+-- the line of a row that is broken
+unfoldable pub broken_line : BrokenRow → List ℕ
+broken_line row = line (codes "line " ++ decimal row.line ++ codes " has a wall and is no row: byte " ++ decimal row.byte ++
+    cause_words row.cause ++ parts_words row.parts)
+
+-- level n is wanted: all levels are, or one by its number
+abbrev pub is_wanted : Option ℕ → ℕ → Bool
+is_wanted None n = true
+is_wanted (Some wanted) n = wanted == n
+
+-- what is written of the first levels of these bytes, and whether nothing was found: lines of broken rows, and the texts
+-- of the wanted levels
+pub data Explains (bytes : List ℕ) (wanted : Option ℕ) : List Listed → List ℕ → Bool → Type 0 where
+  none : Explains bytes wanted [] [] true
+  broken : {listing : List Listed} {text : List ℕ} {sound : Bool} (row : BrokenRow) →
+      Explains bytes wanted listing text sound → IsBroken bytes row →
+      Explains bytes wanted listing (text ++ broken_line row) false
+  other : {listing : List Listed} {text : List ℕ} {sound : Bool} (listed : Listed) →
+      Explains bytes wanted listing text sound → is_wanted wanted (suc (length listing)) ≡ false →
+      Explains bytes wanted (listing ++ listed ∷ []) text sound
+  told : {listing : List Listed} {text : List ℕ} {sound : Bool} (listed : Listed) (board : Board)
+      (places : List RowPlace) (remark : Remark) →
+      Explains bytes wanted listing text sound → is_wanted wanted (suc (length listing)) ≡ true →
+      IsBoardAt bytes listed.first_line board places → IsJudged board listed.board → IsTrueOf board remark →
+      Explains bytes wanted (listing ++ listed ∷ [])
+      (text ++ level_text wanted (suc (length listing)) listed board places remark) (sound && is_sound remark)
+
+-- the report: of all levels with `check`'s totals; or of the wanted one, if there is such a level; good if nothing was
+-- found
+abbrev pub explained : Option ℕ → List Listed → List ℕ → Bool → Report
+explained None listing text sound = record {
+  text = text ++ line
+      (decimal (length listing) ++ codes " levels, " ++ decimal (good_count listing) ++ codes " good");
+  status = cond sound 0 1;
+}
+explained (Some n) listing text sound =
+    cond (nat_lt (length listing) n) (no_level n) (record { text = text; status = cond sound 0 1 })
+
+-- the report of explaining the levels of these bytes, or the wanted one
+abbrev pub IsExplainReport : Option ℕ → List ℕ → Report → Type 0
+IsExplainReport wanted bytes report =
+    (listing : List Listed) × IsLevelListing bytes listing × (text : List ℕ) × (sound : Bool) ×
+    Explains bytes wanted listing text sound × (report ≡ explained wanted listing text sound)

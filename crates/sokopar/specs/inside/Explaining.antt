@@ -1,0 +1,47 @@
+-- The parts of what `explain` writes that functions of their own find.
+use Rattle.std.specs.Prelude.{◌≡◌, ℕ, ◌<◌, ◌⊎◌, Bool, true, false, List, [], ◌∷◌, ◌++◌, length, Option, IfSome}
+use Rattle.grid.specs.declared.cell.Cell.{Cell}
+use Rattle.grid.specs.Board.{Board, box_cell, goal_cell, is_wall, player_cell}
+use Rattle.grid.specs.Lawful.{InRoom}
+use Rattle.grid.specs.Squares.{Squares, contains}
+use Rattle.doom.specs.Deadlocks.{IsFrozen}
+use Rattle.xsb.specs.Breaks.{IsBroken}
+use Rattle.xsb.specs.declared.breaks.BrokenRow.{BrokenRow}
+use Rattle.xsb.specs.declared.breaks.BrokenRows.{BrokenRows}
+use Rattle.xsb.specs.declared.places.BoardRows.{BoardRows}
+use Rattle.xsb.specs.inside.Breaking.{IsPastLine}
+use Rattle.sokopar.specs.declared.faulty.Kind.{Kind}
+use Rattle.sokopar.specs.declared.faulty.Kind.TheVariants.{Player, Box, Goal}
+
+-- the cell has something of a kind on it
+abbrev pub is_kind : Kind → Cell → Bool
+is_kind Player = player_cell
+is_kind Box = box_cell
+is_kind Goal = goal_cell
+
+-- the board that was read
+abbrev pub board_in : BoardRows → Board
+board_in rows = record { cols = rows.cols; cells = rows.cells.items }
+
+-- the squares are of the player's room and in the grid
+abbrev pub AreInRoom : Board → Squares → Type 0
+AreInRoom board squares = (q : ℕ) → contains squares q ≡ true → InRoom board q × (q < length board.cells)
+
+-- a look at a square adds it to the pending ones, or not
+abbrev pub Looks : Board → ℕ → Squares → Squares → Type 0
+Looks board q old new = (new ≡ old) ⊎
+    ((is_wall board q ≡ false) × (q < length board.cells) × (new ≡ old ++ q ∷ []))
+
+-- each square of the one set is in the other
+abbrev pub AreAmong : Squares → Squares → Type 0
+AreAmong few more = (q : ℕ) → contains few q ≡ true → contains more q ≡ true
+
+-- some of the boxes, among which some are frozen
+pub record AreFrozen (board : Board) (boxes few : Squares) : Type 0 where
+  pub among : AreAmong few boxes
+  pub frozen : (members : Squares) × IsFrozen board few members
+
+-- the broken rows that are left, and the first of them
+pub record HaveBroken (bytes : List ℕ) (rows : BrokenRows) (next : Option BrokenRow) : Type 0 where
+  pub rest : IsPastLine bytes rows
+  pub first : IfSome next (IsBroken bytes)

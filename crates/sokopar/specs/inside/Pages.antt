@@ -1,0 +1,36 @@
+-- How `explain` goes from level to level.
+use Rattle.std.specs.Prelude.{◌≡◌, ℕ, suc, ◌++◌, Bool, ◌&&◌, List, Option, Some, None}
+use Rattle.xsb.specs.Collection.{Found, IsJudged}
+use Rattle.xsb.specs.declared.breaks.BrokenRow.{BrokenRow}
+use Rattle.xsb.specs.declared.breaks.BrokenRows.{BrokenRows}
+use Rattle.xsb.specs.declared.places.BoardSource.{BoardSource}
+use Rattle.xsb.specs.declared.places.RowPlace.{RowPlace}
+use Rattle.xsb.specs.inside.Breaking.{rows_left}
+use Rattle.xsb.specs.inside.Sources.{HasRowsFor}
+use Rattle.sokopar.specs.Explaining.{Explains}
+use Rattle.sokopar.specs.Listing.{Listed}
+use Rattle.sokopar.specs.declared.explain.Broken.{Broken}
+use Rattle.sokopar.specs.declared.explain.Page.{Page}
+use Rattle.sokopar.specs.inside.Explaining.{HaveBroken}
+
+-- the levels so far are explained, and the broken rows that are left are known
+pub record IsPage (bytes : List ℕ) (wanted : Option ℕ) (listing : List Listed) (page : Page) (gaps : Broken) : Type 0 where
+  pub text : Explains bytes wanted listing page.text page.sound
+  pub broken : HaveBroken bytes gaps.rows gaps.first
+
+-- text is added to a page, and something is found or not
+abbrev pub Adds : List ℕ → Bool → Page → Page → Type 0
+Adds more sound old new = (new.text ≡ old.text ++ more) × (new.sound ≡ (old.sound && sound))
+
+-- the board of the source, and its rows
+abbrev pub IsSourceOf : BoardSource → Found → Type 0
+IsSourceOf source found = IsJudged found.board source.entry.board ×
+    ((places : List RowPlace) × HasRowsFor found.board places source.rows)
+
+-- no more broken rows come
+abbrev pub broken_left : Option BrokenRow → BrokenRows → ℕ
+broken_left None rows = 0
+broken_left (Some row) rows = suc (rows_left rows)
+
+abbrev pub rows_left_in : Broken → ℕ
+rows_left_in broken = broken_left broken.first broken.rows

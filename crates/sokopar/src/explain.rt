@@ -1,0 +1,347 @@
+//! Explaining the levels of a collection: where and why each is faulty or cannot be solved.
+ghost use Rattle.std.specs.Prelude.{◌≡◌, ℕ, suc, ◌+◌, ◌≤◌, ◌++◌, ◌∷◌, [], List, Option, cond, length, map, IfOk, OnOk, false};
+ghost use Rattle.grid.specs.Board.{Board};
+ghost use Rattle.sokopar.specs.Entries.{listed_of};
+ghost use Rattle.sokopar.specs.Explaining.{Explains, IsExplainReport, IsTrueOf, drawn, explained, is_drawn, is_quiet};
+ghost use Rattle.sokopar.specs.Explaining.{is_sound, is_wanted, level_text};
+ghost use Rattle.sokopar.specs.Listing.{Listed};
+ghost use Rattle.sokopar.specs.Report.{check_line, good_count};
+ghost use Rattle.sokopar.specs.declared.remark.Remark.{Remark};
+ghost use Rattle.sokopar.specs.inside.Explaining.{HaveBroken, board_in};
+ghost use Rattle.sokopar.specs.inside.Pages.{Adds, IsPage, IsSourceOf};
+ghost use Rattle.sokopar.specs.inside.Parts.{is_good as good_board};
+ghost use Rattle.xsb.specs.Collection.{Found, IsJudged};
+ghost use Rattle.xsb.specs.Entries.{IsBoardEntry};
+ghost use Rattle.xsb.specs.Rows.{cell_byte};
+ghost use Rattle.xsb.specs.declared.places.RowPlace.{RowPlace};
+ghost use Rattle.xsb.specs.inside.Sources.{HasRowsFor, HasSource};
+
+use crate::check::{is_good, put_line, put_totals};
+use crate::dead::put_map;
+use crate::doomed::remark_of_level;
+use crate::faulty::{Kind, is_too_large, remark_of_fault, squares_with};
+use crate::remark::Remark;
+use crate::report::Report;
+use crate::sentences::{put_broken, put_remark, put_too_large};
+use crate::show::no_level;
+use crate::text::Text;
+use grid::{Cell, Level, LevelFault, MAX_COLS};
+use std::alloc::{AllocError, Global};
+use xsb::{
+    BoardEntry, BoardRows, BoardSource, BrokenRow, BrokenRows, Collection, MAX_FILE, cell_byte,
+};
+
+/// The text so far, and whether nothing was found so far.
+#[derive(Drop)]
+struct Page {
+    text: Text,
+    sound: bool,
+}
+
+/// The broken rows that are left.
+#[derive(Drop)]
+struct Broken<'a> {
+    rows: BrokenRows<'a>,
+    /// The first of them.
+    first: Option<BrokenRow>,
+}
+
+/// Whether a level is wanted: all are, or one by its number.
+fn is_wanted(wanted: Option<u32>, number: usize) -> bool
+    ensures { result ≡ is_wanted wanted number }
+{
+    match wanted {
+        None => true,
+        Some(wanted) => wanted as usize == number,
+    }
+}
+
+/// Whether the gap before level `number` is beside a level that is wanted.
+fn is_beside(wanted: Option<u32>, number: usize) -> bool {
+    is_wanted(wanted, number) || is_wanted(wanted, number.saturating_sub(1))
+}
+
+/// The broken rows of a collection.
+fn broken_of<'a>(bytes: &'a [u8]) -> Broken<'a>
+    requires { length bytes.now ≤ MAX_FILE }
+    ensures { HaveBroken bytes.now result.rows result.first }
+{
+    let mut rows = BrokenRows::of(bytes);
+    let first = rows.next_row();
+    Broken { rows, first }
+}
+
+/// Appends the lines of the broken rows before a line of the file, or passes these over.
+fn put_gap(
+    page: &mut Page,
+    broken: &mut Broken<'_>,
+    line: u32,
+    shown: bool,
+) -> Result<(), AllocError>
+    ensures { (bytes : List ℕ) (wanted : Option ℕ) (listing : List Listed) →
+        IsPage bytes wanted listing page.old broken.old → OnOk result (IsPage bytes wanted listing page.new broken.new) }
+{
+    'rows: while let Some(row) = broken.first {
+        if row.line >= line {
+            break;
+        }
+        broken.first = broken.rows.next_row();
+        if shown {
+            put_broken(&mut page.text, row)?;
+            page.sound = false;
+        }
+    }
+    Ok(())
+}
+
+/// `check`'s line of a level.
+fn head_of(alloc: Global, number: usize, entry: &BoardEntry) -> Result<Text, AllocError>
+    ensures { IfOk result (λ head. head ≡ check_line number (listed_of entry.now)) }
+{
+    let mut head = Text::new(alloc);
+    put_line(&mut head, number, entry)?;
+    Ok(head)
+}
+
+/// What is found against a level whose board is not too large.
+fn remark_of(
+    alloc: Global,
+    board: &Result<Level, LevelFault>,
+    rows: &BoardRows,
+) -> Result<Remark, AllocError>
+    requires columns { 1 ≤ rows.now.cols }
+    requires wide { rows.now.cols ≤ MAX_COLS }
+    requires bound { length rows.now.cells.items ≤ 65535 }
+    requires judged { IsJudged (board_in rows.now) board.now }
+    ensures { IfOk result (λ remark. IsTrueOf (board_in rows.now) remark) }
+{
+    match board {
+        Ok(level) => {
+            let boxes = squares_with(alloc, Kind::Box, &rows.cells)?;
+            remark_of_level(alloc, level, boxes.as_slice())
+        }
+        Err(fault) => remark_of_fault(alloc, *fault, rows),
+    }
+}
+
+/// Whether nothing is written of a level.
+fn is_quiet(remark: &Remark, wanted: Option<u32>) -> bool
+    ensures { result ≡ is_quiet remark.now wanted }
+{
+    remark.is_sound() && wanted.is_none()
+}
+
+/// Whether the board is shown.
+fn is_drawn(remark: &Remark, wanted: Option<u32>) -> bool
+    ensures { result ≡ is_drawn remark.now wanted }
+{
+    match remark {
+        Remark::TooLarge => false,
+        _ => wanted.is_some(),
+    }
+}
+
+/// The bytes of cells.
+fn bytes_of(alloc: Global, cells: &[Cell]) -> Result<Vec<u8>, AllocError>
+    ensures { IfOk result (λ bytes. bytes.items ≡ map cell_byte cells.now) }
+{
+    cells.iter().map(|cell| cell_byte(*cell)).collect(alloc)
+}
+
+/// Appends a board as it was read, if it is shown.
+fn put_drawn(
+    alloc: Global,
+    text: &mut Text,
+    rows: &BoardRows,
+    shown: bool,
+) -> Result<(), AllocError>
+    requires { 1 ≤ rows.now.cols }
+    ensures { OnOk result (text.new ≡ text.old ++ cond shown (drawn (board_in rows.now)) []) }
+{
+    if !shown {
+        return Ok(());
+    }
+    let bytes = bytes_of(alloc, &rows.cells)?;
+    put_map(
+        text,
+        rows.cells.len() / rows.cols,
+        rows.cols,
+        bytes.as_slice(),
+    )
+}
+
+/// Appends what is written of a level whose board is not too large.
+fn put_found(
+    alloc: Global,
+    page: &mut Page,
+    head: &Text,
+    rows: &BoardRows,
+    remark: &Remark,
+    wanted: Option<u32>,
+) -> Result<(), AllocError>
+    requires { 1 ≤ rows.now.cols }
+    ensures { (n : ℕ) (listed : Listed) → head.now ≡ check_line n listed →
+        OnOk result (Adds (level_text wanted n listed (board_in rows.now) rows.now.places.items remark.now)
+        (is_sound remark.now) page.old page.new) }
+{
+    if is_quiet(remark, wanted) {
+        return Ok(());
+    }
+    page.text.put(head.as_slice())?;
+    put_remark(&mut page.text, rows, remark)?;
+    put_drawn(alloc, &mut page.text, rows, is_drawn(remark, wanted))?;
+    page.sound &= remark.is_sound();
+    Ok(())
+}
+
+/// Appends what is written of a level whose board is too large.
+fn put_large(page: &mut Page, head: &Text) -> Result<(), AllocError>
+    ensures { (wanted : Option ℕ) (n : ℕ) (listed : Listed) (board : Board) (places : List RowPlace) →
+        head.now ≡ check_line n listed →
+        OnOk result (Adds (level_text wanted n listed board places Remark.TooLarge) false page.old page.new) }
+{
+    page.text.put(head.as_slice())?;
+    put_too_large(&mut page.text)?;
+    page.sound = false;
+    Ok(())
+}
+
+/// Appends what is written of a level that is wanted.
+fn put_wanted(
+    alloc: Global,
+    page: &mut Page,
+    number: usize,
+    source: BoardSource,
+    wanted: Option<u32>,
+) -> Result<(), AllocError>
+    requires { (found : Found) × IsSourceOf source found }
+    ensures { (found : Found) (places : List RowPlace) → IsJudged found.board source.entry.board →
+        HasRowsFor found.board places source.rows →
+        OnOk result ((remark : Remark) × IsTrueOf found.board remark ×
+        Adds (level_text wanted number (listed_of source.entry) found.board places remark) (is_sound remark) page.old
+        page.new) }
+{
+    let BoardSource { entry, rows } = source;
+    let head = head_of(alloc, number, &entry)?;
+    let Some(rows) = rows else {
+        return put_large(page, &head);
+    };
+    if is_too_large(&rows) {
+        return put_large(page, &head);
+    }
+    let listed = entry.into_entry(alloc)?;
+    let remark = remark_of(alloc, &listed.board, &rows)?;
+    put_found(alloc, page, &head, &rows, &remark, wanted)
+}
+
+/// Appends what is written of a level.
+fn put_level(
+    alloc: Global,
+    page: &mut Page,
+    number: usize,
+    source: BoardSource,
+    wanted: Option<u32>,
+) -> Result<(), AllocError>
+    requires { (found : Found) × IsSourceOf source found }
+    ensures { (bytes : List ℕ) (found : Found) (listing : List Listed) → number ≡ suc (length listing) →
+        IsBoardEntry source.entry found → HasSource bytes found source.rows →
+        Explains bytes wanted listing page.old.text page.old.sound →
+        OnOk result (Explains bytes wanted (listing ++ listed_of source.entry ∷ []) page.new.text page.new.sound) }
+{
+    if !is_wanted(wanted, number) {
+        return Ok(());
+    }
+    put_wanted(alloc, page, number, source, wanted)
+}
+
+/// Appends what is written of the gap before a level, and of the level.
+fn put_next(
+    alloc: Global,
+    page: &mut Page,
+    broken: &mut Broken<'_>,
+    number: usize,
+    source: BoardSource,
+    wanted: Option<u32>,
+) -> Result<(), AllocError>
+    requires { (found : Found) × IsSourceOf source found }
+    ensures { (bytes : List ℕ) (found : Found) (listing : List Listed) → number ≡ suc (length listing) →
+        IsBoardEntry source.entry found → HasSource bytes found source.rows →
+        IsPage bytes wanted listing page.old broken.old →
+        OnOk result (IsPage bytes wanted (listing ++ listed_of source.entry ∷ []) page.new broken.new) }
+{
+    put_gap(
+        page,
+        broken,
+        source.entry.first_line,
+        is_beside(wanted, number),
+    )?;
+    put_level(alloc, page, number, source, wanted)
+}
+
+/// The number of lawful levels with one level more.
+fn good_with(good: usize, entry: &BoardEntry) -> usize
+    requires { good ≤ MAX_FILE }
+    ensures { result ≡ cond (good_board (listed_of entry.now)) (good + 1) good }
+{
+    if is_good(entry) { good + 1 } else { good }
+}
+
+/// The report of what was written.
+fn report_of(
+    alloc: Global,
+    page: Page,
+    levels: usize,
+    good: usize,
+    wanted: Option<u32>,
+) -> Result<Report, AllocError>
+    ensures { (listing : List Listed) → levels ≡ length listing → good ≡ good_count listing →
+        IfOk result (λ report. report ≡ explained wanted listing page.text page.sound) }
+{
+    let Page { mut text, sound } = page;
+    let status = if sound { 0 } else { 1 };
+    match wanted {
+        None => put_totals(&mut text, levels, good)?,
+        Some(number) => {
+            if levels < number as usize {
+                return no_level(alloc, number);
+            }
+        }
+    }
+    Ok(Report::new(text, status))
+}
+
+/// The report of explaining the levels of a collection, or the one that is wanted.
+pub(crate) fn explain_in(
+    alloc: Global,
+    bytes: &[u8],
+    wanted: Option<u32>,
+) -> Result<Report, AllocError>
+    requires { length bytes.now ≤ MAX_FILE }
+    ensures { IfOk result (λ report. IsExplainReport wanted bytes.now report) }
+{
+    let Ok(mut collection) = Collection::of(bytes) else {
+        unreachable!();
+    };
+    let mut broken = broken_of(bytes);
+    let mut page = Page {
+        text: Text::new(alloc),
+        sound: true,
+    };
+    let mut levels = 0;
+    let mut good = 0;
+    'boards: loop {
+        let Some(source) = collection.next_source(alloc)? else {
+            break;
+        };
+        levels += 1;
+        good = good_with(good, &source.entry);
+        put_next(alloc, &mut page, &mut broken, levels, source, wanted)?;
+    }
+    put_gap(
+        &mut page,
+        &mut broken,
+        u32::MAX,
+        is_beside(wanted, levels + 1),
+    )?;
+    report_of(alloc, page, levels, good, wanted)
+}

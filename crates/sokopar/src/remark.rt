@@ -1,0 +1,36 @@
+//! What is found against a level.
+ghost use Rattle.std.specs.Prelude.{◌≡◌};
+ghost use Rattle.sokopar.specs.Explaining.{is_sound};
+
+use grid::Square;
+
+/// What is found against a level.
+#[derive(Drop)]
+pub(crate) enum Remark {
+    /// It has too many rows or columns.
+    TooLarge,
+    /// It has no player or several: the squares of all.
+    Players(Vec<Square>),
+    /// It has no box, or not as many as goals: the squares of all boxes and goals.
+    Unequal {
+        boxes: Vec<Square>,
+        goals: Vec<Square>,
+    },
+    /// The player reaches this square at the edge of the grid.
+    Exit(Square),
+    /// These boxes are on dead squares.
+    DeadBoxes(Vec<Square>),
+    /// Some of these boxes are frozen, at least one of them off goal.
+    Frozen(Vec<Square>),
+    /// Nothing.
+    Sound,
+}
+
+impl Remark {
+    /// Whether nothing is found.
+    pub(crate) fn is_sound(&self) -> bool
+        ensures { result ≡ is_sound self.now }
+    {
+        matches!(self, Remark::Sound)
+    }
+}

@@ -1,0 +1,119 @@
+-- The places of the rows of a board, line by line.
+use Rattle.std.proofs.Common.{◌≡◌, ℕ, zero, suc, ◌+◌, ◌-◌, ◌<◌, ◌≤◌, Bool, List, [], ◌∷◌, ◌++◌, length, take, replicate, flat_map, refl, sym, ap, ◌∙◌, arith, length-append}
+use Rattle.std.proofs.Common.{append_assoc, subst, inl, inr, Option, Some, None, Vec, Global}
+use Rattle.std.specs.List.{AllZip}
+use Rattle.std.proofs.Math.Seq.{take-append_seam}
+use Rattle.std.proofs.lemmas.List.{append-nil}
+use Rattle.std.proofs.lemmas.Bool.{cases_lt}
+use Rattle.grid.specs.declared.cell.Cell.{Cell}
+use Rattle.grid.specs.declared.limits.TheConstants.{MAX_ROWS, MAX_COLS}
+use Rattle.grid.specs.Lawful.{row_count}
+use Rattle.xsb.specs.Boards.{board_of, cols_of, padded}
+use Rattle.xsb.specs.Collection.{Found}
+use Rattle.xsb.specs.Lines.{lines_of_text}
+use Rattle.xsb.specs.Places.{IsBoardAt, is_plain, row_places}
+use Rattle.xsb.specs.Rows.{pieces_of, IsTextLine}
+use Rattle.xsb.specs.declared.boards.Stretch.{Stretch}
+use Rattle.xsb.specs.declared.lines.Lines.{Lines}
+use Rattle.xsb.specs.declared.places.BoardRows.{BoardRows}
+use Rattle.xsb.specs.declared.places.RowPlace.{RowPlace}
+use Rattle.xsb.specs.inside.Cursors.{IsAt}
+use Rattle.xsb.specs.inside.Gaps.{BeginsGap}
+use Rattle.xsb.specs.inside.Reading.{cut_line, cut_lines}
+use Rattle.xsb.specs.inside.Sources.{IsTaken, HasRowsFor, HasSource}
+use Rattle.xsb.specs.inside.Stretches.{HasRows, ReadsBoard}
+use Rattle.xsb.proofs.BoardByBoard.{HasRows-read}
+use Rattle.xsb.proofs.Judging.{HasRows-cols, cols-exact, row_count-board_of, same-board}
+
+-- the places so far, and those of the lines that are left, are all places
+pub record Placing (all : List RowPlace) (count k number : ℕ) (rest : List (List ℕ)) (places : List RowPlace) : Type 0 where
+  pub made : all ≡ places ++ row_places number (take (count - k) (cut_lines rest))
+
+pub Placing-none : (count number : ℕ) (lines rest : List (List ℕ)) → rest ≡ lines → Placing (row_places number (take count (cut_lines lines))) count 0 number rest []
+Placing-none count number lines rest e = record {
+  made = let whole : count - 0 ≡ count = omega arith in
+      ap (λ n. row_places number (take n (cut_lines lines))) (sym whole) ∙ ap (λ l. row_places number (take (count - 0) (cut_lines l))) (sym e);
+}
+
+-- one line more
+pub Placing-more : {all : List RowPlace} {count k number : ℕ} {rest : List (List ℕ)} {places : List RowPlace} (raw : List ℕ) (next : List (List ℕ)) (n next_number : ℕ)
+    (fresh : List RowPlace) (rows : ℕ) (plain : Bool) → Placing all count k number rest places → k < count → n ≡ k + 1 → next_number ≡ number + 1 → rest ≡ raw ∷ next →
+    rows ≡ length (pieces_of (cut_line raw)) → plain ≡ is_plain (cut_line raw) →
+    fresh ≡ places ++ replicate rows (record { line = number; plain = plain }) → Placing all count n next_number next fresh
+Placing-more {all} {count} {k} {number} {rest} {places} raw next n next_number fresh rows plain is less e f g h i pushed =
+    let left : count - k ≡ suc (count - n) = omega arith in
+    let after : suc number ≡ next_number = omega arith in
+    let this : RowPlace = record { line = number; plain = is_plain (cut_line raw) } in
+    let one = replicate (length (pieces_of (cut_line raw))) this in
+    let begun : row_places number (take (count - k) (cut_lines rest)) ≡ one ++ row_places (suc number) (take (count - n) (cut_lines next)) =
+    ap (λ m. row_places number (take m (cut_lines rest))) left ∙ ap (λ l. row_places number (take (suc (count - n)) (cut_lines l))) g in
+    let pushed_is : fresh ≡ places ++ one = pushed ∙ ap (λ m. places ++ replicate m (record { line = number; plain = plain })) h ∙
+    ap (λ p. places ++ replicate (length (pieces_of (cut_line raw))) (record { line = number; plain = p })) i in
+    record {
+      made = is.made ∙ ap (λ l. places ++ l) begun ∙ sym (append_assoc places one (row_places (suc number) (take (count - n) (cut_lines next)))) ∙
+          ap (λ l. l ++ row_places (suc number) (take (count - n) (cut_lines next))) (sym pushed_is) ∙
+          ap (λ m. fresh ++ row_places m (take (count - n) (cut_lines next))) after;
+    }
+
+-- all lines are done
+pub Placing-all : {all : List RowPlace} {count k number : ℕ} {rest : List (List ℕ)} {places : List RowPlace} → Placing all count k number rest places → count ≤ k → places ≡ all
+Placing-all {all} {count} {k} {number} {rest} {places} is e =
+    let none : count - k ≡ 0 = omega arith in
+    sym (is.made ∙ ap (λ m. places ++ row_places number (take m (cut_lines rest))) none ∙ append-nil places)
+
+-- no line is left
+pub Placing-end : {all : List RowPlace} {count k number : ℕ} {rest : List (List ℕ)} {places : List RowPlace} → Placing all count k number rest places → rest ≡ [] → places ≡ all
+Placing-end {all} {count} {k} {number} {rest} {places} is e =
+    sym (is.made ∙ ap (λ l. places ++ row_places number (take (count - k) (cut_lines l))) e ∙ ap (λ l. places ++ row_places number l) (take-nil (count - k)) ∙ append-nil places)
+  where
+    take-nil : (n : ℕ) → take {A = List ℕ} n [] ≡ []
+    take-nil zero = refl
+    take-nil (suc n) = refl
+
+pub rows-tall : {stretch : Stretch} (rows : List (List Cell)) (places : List RowPlace) → HasRows stretch rows → MAX_ROWS < stretch.size.rows →
+    HasRowsFor (board_of rows) places None
+rows-tall {stretch} rows places has tall =
+    let n = has.size.row_count in let many = row_count-board_of rows (HasRows-cols has) in inl (omega arith)
+
+pub rows-wide : {stretch : Stretch} (rows : List (List Cell)) (places : List RowPlace) → HasRows stretch rows → MAX_COLS < stretch.size.cols →
+    HasRowsFor (board_of rows) places None
+unfolding board_of
+rows-wide {stretch} rows places has wide = let n = has.size.col_count in inr (omega arith)
+
+pub rows-made : {stretch : Stretch} {all : List RowPlace} (rows : List (List Cell)) (cells : Vec Cell Global) (places : Vec RowPlace Global) → HasRows stretch rows → stretch.size.cols ≤ MAX_COLS →
+    (cols_of rows ≤ stretch.size.cols → cells.items ≡ flat_map (padded stretch.size.cols) rows) → places.items ≡ all →
+    HasRowsFor (board_of rows) all (Some (record { cols = stretch.size.cols; cells = cells; places = places }))
+rows-made {stretch} {all} rows cells places has few made are =
+    let exact = cols-exact rows has few in let some = HasRows-cols has in
+    (sym (same-board rows cells.items has few (made (omega arith))), sym are, omega arith)
+
+take-front : (xs ys : List (List ℕ)) (n : ℕ) → n ≡ length xs → take n (xs ++ ys) ≡ xs
+take-front xs ys n e = ap (λ k. take k (xs ++ ys)) e ∙ take-append_seam xs ys
+
+-- the source of a board that was taken
+pub HasSource-taken : {old new : Lines} {found : Found} {stretch : Stretch} (bytes : List ℕ) → IsAt bytes old → (is : IsTaken old new found stretch) (rows : Option BoardRows) →
+    HasRowsFor (board_of is.read.rows) (row_places stretch.first_line (take stretch.count (cut_lines stretch.lines))) rows → HasSource bytes found rows
+HasSource-taken {old} {new} {found} {stretch} bytes here is rows for_rows =
+    let read = is.read in let after = cut_lines is.mid.rest in
+    let lines : take stretch.count (cut_lines stretch.lines) ≡ read.lines =
+    ap (λ l. take stretch.count l) (ap cut_lines read.from ∙ read.read.whole) ∙ take-front read.lines after stretch.count read.count in
+    let first : stretch.first_line ≡ found.first_line = read.first_line ∙ sym is.first_line in
+    let places : row_places stretch.first_line (take stretch.count (cut_lines stretch.lines)) ≡ row_places found.first_line read.lines =
+    ap (λ l. row_places stretch.first_line l) lines ∙ ap (λ n. row_places n read.lines) first in (
+      row_places found.first_line read.lines,
+      record {
+        before = here.before;
+        lines = read.lines;
+        after = after;
+        whole = here.whole ∙ ap (λ l. here.before ++ l) read.read.whole;
+        first = is.first_line ∙ here.number;
+        some = read.some;
+        ends = λ next rest e. subst BeginsGap e read.ends;
+        rows = read.read.rows_are.by_line;
+        each = read.read.rows_are.each;
+        made = is.board ∙ ap board_of read.read.rows_are.all;
+        places_are = refl;
+      },
+      subst (λ ps. HasRowsFor found.board ps rows) places
+          (subst (λ b. HasRowsFor b (row_places stretch.first_line (take stretch.count (cut_lines stretch.lines))) rows) (sym is.board) for_rows),
+    )

@@ -1,0 +1,53 @@
+-- What the reader answers of a board and its rows.
+use Rattle.std.specs.Prelude.{◌≡◌, ℕ, ◌<◌, ◌≤◌, ◌⊎◌, List, [], ◌∷◌, ◌++◌, Option, Some, None, Result}
+use Rattle.grid.specs.Board.{Board}
+use Rattle.grid.specs.Lawful.{row_count}
+use Rattle.grid.specs.declared.cell.Cell.{Cell}
+use Rattle.grid.specs.declared.limits.TheConstants.{MAX_ROWS, MAX_COLS}
+use Rattle.xsb.specs.Boards.{board_of}
+use Rattle.xsb.specs.Collection.{Found, IsCollection}
+use Rattle.xsb.specs.Entries.{IsBoardEntry}
+use Rattle.xsb.specs.Places.{IsBoardAt}
+use Rattle.xsb.specs.declared.boards.Stretch.{Stretch}
+use Rattle.xsb.specs.declared.entry.BoardEntry.{BoardEntry}
+use Rattle.xsb.specs.declared.lines.Lines.{Lines}
+use Rattle.xsb.specs.declared.places.BoardRows.{BoardRows}
+use Rattle.xsb.specs.declared.places.BoardSource.{BoardSource}
+use Rattle.xsb.specs.declared.places.RowPlace.{RowPlace}
+use Rattle.xsb.specs.declared.reader.Collection.{Collection}
+use Rattle.xsb.specs.inside.Cursors.{IsAt}
+use Rattle.xsb.specs.inside.Progress.{HasRead}
+use Rattle.xsb.specs.inside.Stretches.{ReadsBoard}
+
+-- a board that was read from these lines on, and left the others for later
+pub record IsTaken (old new : Lines) (found : Found) (stretch : Stretch) : Type 0 where
+  pub mid : Lines
+  pub read : ReadsBoard old mid stretch
+  pub board : found.board ≡ board_of read.rows
+  pub first_line : found.first_line ≡ old.number
+  pub onward : (bytes : List ℕ) → IsAt bytes old → IsAt bytes new
+
+-- the next board with the lines that it was read from, and the collection after it; or these boards are all
+abbrev pub Takes : List ℕ → List Found → Collection → Collection → Option (BoardEntry × Stretch) → Type 0
+Takes bytes founds old new None = IsCollection bytes founds
+Takes bytes founds old new (Some taken) =
+    (found : Found) × IsBoardEntry taken.0 found × HasRead bytes new (founds ++ found ∷ []) ×
+    IsTaken old.lines new.lines found taken.1
+
+-- the rows of a board whose rows have these places; none if it is too tall or too wide
+abbrev pub HasRowsFor : Board → List RowPlace → Option BoardRows → Type 0
+HasRowsFor board places None = (MAX_ROWS < row_count board) ⊎ (MAX_COLS < board.cols)
+HasRowsFor board places (Some rows) =
+    (board ≡ record { cols = rows.cols; cells = rows.cells.items }) × (places ≡ rows.places.items) × (1 ≤ rows.cols)
+
+-- the board that was found is read from the lines at its first line, with these rows
+abbrev pub HasSource : List ℕ → Found → Option BoardRows → Type 0
+HasSource bytes found rows =
+    (places : List RowPlace) × IsBoardAt bytes found.first_line found.board places × HasRowsFor found.board places rows
+
+-- the next board with its rows, and the collection after it; or these boards are all
+abbrev pub GivesSource : List ℕ → List Found → Collection → Option BoardSource → Type 0
+GivesSource bytes founds new None = IsCollection bytes founds
+GivesSource bytes founds new (Some source) =
+    (found : Found) × IsBoardEntry source.entry found × HasRead bytes new (founds ++ found ∷ []) ×
+    IsAt bytes new.lines × HasSource bytes found source.rows
