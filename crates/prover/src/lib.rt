@@ -18,8 +18,8 @@
 //! let progress = &mut Unheard;
 //! let best = prover::search(&rt, alloc, &level, None, 1_000, 1, progress).expect(&rt, "memory");
 //! assert!(&rt; matches!(&best, Outcome::Least { pushes: 2, .. }));
-//! let fewer = prover::search(&rt, alloc, &level, Some(1), 1_000, 2, progress).expect(&rt, "memory");
-//! assert!(&rt; matches!(&fewer, Outcome::NoneWithin));
+//! let none = prover::search(&rt, alloc, &level, Some(1), 100, 2, progress).expect(&rt, "memory");
+//! assert!(&rt; matches!(&none, Outcome::NoneWithin));
 //! ```
 #![tactic(auto)]
 
