@@ -1,5 +1,5 @@
 //! Collections: boards, their faults and names, and the text of a level.
-use grid::{Level, LevelFault, MAX_COLS, MAX_ROWS, Square};
+use grid::{Level, LevelFault, MAX_ROWS, Square};
 use std::alloc::Global;
 use std::process::Abort;
 use std::test::Fail;
@@ -35,13 +35,11 @@ fn only(alloc: Global, text: &[u8]) -> Result<Entry, Fail> {
 #[test]
 fn boards_are_levels_or_have_a_first_fault(rt: HostRuntime) -> Result<(), Fail> {
     let counts = LevelFault::Counts { boxes: 2, goals: 1 };
-    let rows: [(&[u8], Shape); 15] = [
+    let rows: [(&[u8], Shape); 13] = [
         (b"5#|#@$.#|5#", Ok((3, 5, 1))),
         (b"5#|#@$.#|5#|", Ok((3, 5, 1))),
         (b"||05#\n#@$.#||0005#", Ok((3, 5, 1))),
         (b"68#|#@65*#|68#", Ok((3, 68, 65))),
-        (b"255#|#@$.250-#|255#", Ok((3, MAX_COLS, 1))),
-        (b"256#|#@$.251-#|256#", Err(LevelFault::TooWide)),
         (b"||3#|", Err(LevelFault::NoPlayer)),
         (b"####\n# .#\n####", Err(LevelFault::NoPlayer)),
         (b"#####\n# $.#\n#####", Err(LevelFault::NoPlayer)),

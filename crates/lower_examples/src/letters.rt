@@ -17,40 +17,6 @@ fn judged(rt: &impl Abort, alloc: Global, text: &[u8]) -> Result<Verdict, Fail> 
     Ok(replay(alloc, &level_of(rt, alloc, CORRIDOR), &moves)?)
 }
 
-#[test]
-fn verdicts(rt: HostRuntime) -> Result<(), Fail> {
-    let solved = |pushes, moves| Verdict::Solved { pushes, moves };
-    let unsolved = Verdict::Unsolved {
-        pushes: 0,
-        moves: 0,
-    };
-    let rows: [(&[u8], Verdict); 6] = [
-        (b"R", solved(1, 1)),
-        (b"Rl", solved(1, 2)),
-        (b"", unsolved),
-        (b"r", Verdict::WrongCase { at: 1 }),
-        (b"l", Verdict::Blocked { at: 1 }),
-        (b"2R", Verdict::Blocked { at: 2 }),
-    ];
-    for (row, (text, want)) in rows.into_iter().enumerate() {
-        assert_eq!(&rt; judged(&rt, rt.alloc(), text)?, want, "row {row}");
-    }
-    Ok(())
-}
-
-#[test]
-fn faults(rt: HostRuntime) {
-    let rows: [(&[u8], LurdFault); 4] = [
-        (b"Rx", LurdFault::BadByte { at: 2 }),
-        (b"0R", LurdFault::BadCount { at: 1 }),
-        (b"R 2", LurdFault::BadCount { at: 3 }),
-        (b"2 r", LurdFault::BadCount { at: 1 }),
-    ];
-    for (row, (text, fault)) in rows.into_iter().enumerate() {
-        assert_eq!(&rt; parse(rt.alloc(), text).err(), Some(fault), "row {row}");
-    }
-}
-
 // A text that repeats an item.
 fn repeated(alloc: Global, item: &[u8], times: usize) -> Result<Vec<u8>, Fail> {
     let mut text = Vec::new(alloc);

@@ -1,24 +1,15 @@
 //! The reports of the engines.
 use super::{Command, Ends, WELL, run};
-use crate::boards::{ONE, THERE_AND_BACK, TWO};
+use crate::boards::{ONE, TWO};
 use std::alloc::Global;
 use std::process::Abort;
 use std::sync::Wait;
 use std::thread::Threads;
 
 #[test]
-fn each_engine_writes_its_report(rt: HostRuntime) {
-    let rows: [(&[u8], Command<'_>, &[u8], u8); 15] = [
-        (b"", Command::Check, b"0 levels, 0 good\n", 0),
-        (
-            TWO,
-            Command::Check,
-            b"1 line 2 ok 3x5 1 boxes one\n2 line 6 fault 7 Open two\n2 levels, 1 good\n",
-            1,
-        ),
+fn show_and_dead_write_boards(rt: HostRuntime) {
+    let rows: [(&[u8], Command<'_>, &[u8], u8); 3] = [
         (b"5#|#@$.#|5#|\n", Command::Show(1), ONE, 0),
-        (TWO, Command::Show(2), b"fault 7 Open\n", 1),
-        (TWO, Command::Show(u32::MAX), b"no level 4294967295\n", 1),
         (
             b"   #####\n####@$.#  #\n   #####\n",
             Command::Dead(1),
@@ -31,29 +22,6 @@ fn each_engine_writes_its_report(rt: HostRuntime) {
             b"#####\n##.##\n## ##\n#x x#\n#x .#\n#####\n",
             0,
         ),
-        (TWO, Command::Dead(2), b"fault 7 Open\n", 1),
-        (
-            ONE,
-            Command::Replay(1, b"Rl"),
-            b"solved 1 pushes, 2 moves\n",
-            0,
-        ),
-        (ONE, Command::Replay(1, b"2R"), b"blocked at 2\n", 1),
-        (ONE, Command::Replay(1, b"R 2"), b"bad count at 3\n", 1),
-        (
-            THERE_AND_BACK,
-            Command::Solve(1, 2, 2),
-            b"solved 6 pushes, 10 moves, 7 positions\nRRdrruLLLL\n",
-            0,
-        ),
-        (
-            b"######\n#.$$.#\n#  @ #\n######\n",
-            Command::Solve(1, 1, 1),
-            b"unsolvable, 0 positions\n",
-            1,
-        ),
-        (TWO, Command::Solve(2, 1, 1), b"fault 7 Open\n", 1),
-        (b"", Command::Solve(1, 1, 1), b"no level 1\n", 1),
     ];
     for (file, command, report, status) in rows {
         run(&rt, rt.alloc(), file, command, WELL).is(&rt, report, status);
