@@ -1,5 +1,5 @@
 -- What the end of a search says, over plain lists of what was found.
-use Rattle.std.proofs.Common.{◌≡◌, ℕ, zero, suc, ◌<◌, List, [], ◌∷◌, length, map, Option, None, Some, inl, inr, refl, ap, subst, arith, max}
+use Rattle.std.proofs.Common.{◌≡◌, ℕ, zero, suc, ◌<◌, List, [], ◌∷◌, length, map, Option, None, Some, inl, inr, refl, sym, ap, subst, arith, max}
 use Rattle.std.proofs.lemmas.Bool.{cases_lt}
 use Rattle.std.proofs.lemmas.Option.{none-some, same_Some}
 use Rattle.std.specs.Prelude.{slice_get}
@@ -7,10 +7,10 @@ use Rattle.grid.specs.Board.{Board, Scene, IsSolved}
 use Rattle.grid.specs.Lawful.{IsLevel}
 use Rattle.prices.specs.Solving.{Allows}
 use Rattle.successors.specs.Distances.{AreDistinct}
-use Rattle.store.specs.Visited.{Entry}
+use Rattle.store.specs.Visited.{Entry, VisitedView}
 use Rattle.prover.specs.Fewest.{NoneHasFewer, IsReachable, HasMore}
 use Rattle.prover.specs.Frontier.{IsSearchUnderWay, AreFrom, NoneIsOpen}
-use Rattle.prover.specs.inside.Working.{IsLeastOpen}
+use Rattle.prover.specs.inside.Working.{IsLeastOpen, IsSearchOnBoard}
 use Rattle.prover.specs.inside.SearchEnds.{NoneIsAllowed, IsFloor, IsLeastSolved}
 use Rattle.prover.proofs.Openings.{allows_fewer, least_bounds, closed_decides}
 
@@ -66,6 +66,17 @@ pub floor_then : (board : Board) (cap : Option ℕ) (all : List Entry) (place le
     IsSearchUnderWay board cap all → IsLeastOpen all place least → IsFloor board cap reach → IsFloor board cap n
 floor_then board cap all place least reach n is level under found floor =
     told_more board cap least reach n is (least_told board cap all place least level under found) floor
+
+-- a call that leaves what was found as it was leaves the search under way
+pub under_way_on : {old new : VisitedView} {board : Board} {cap : Option ℕ} → new ≡ old → IsSearchOnBoard board cap old →
+    IsSearchUnderWay board cap new.entries
+under_way_on {board = board} {cap} same searched = (subst (λ (v : VisitedView). IsSearchOnBoard board cap v) (sym same) searched).under_way
+
+-- and the least total tells as much
+pub floor_on : {old new : VisitedView} {board held : Board} {cap : Option ℕ} {reach n : ℕ} (place least : ℕ) → new ≡ old → held ≡ board →
+    IsLevel held → IsSearchOnBoard board cap old → IsLeastOpen new.entries place least → n ≡ max least reach → IsFloor board cap reach → IsFloor board cap n
+floor_on {new = new} {board} {cap = cap} {reach} {n} place least same is level searched found greater floor =
+    floor_then board cap new.entries place least reach n greater (subst (λ (b : Board). IsLevel b) is level) (under_way_on same searched) found floor
 
 -- nothing is less than 0
 pub told_none : (board : Board) (cap : Option ℕ) → IsFloor board cap 0

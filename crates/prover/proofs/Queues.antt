@@ -159,7 +159,7 @@ only_ordered all ordered aside none queued i x least at open_ = elim (waits_eith
 pub with_aside : (all : List Entry) (ordered aside : List Ticket) → IsQueued all ordered → IsQueued all (ordered ++ aside)
 with_aside all ordered aside queued i x least at open_ = waits_front ordered aside least i (queued i x least at open_)
 
--- the same, over other lists
+-- tickets that wait are queued in equal lists too
 pub queued_same : (all : List Entry) (old new aside aside' : List Ticket) → new ≡ old → aside' ≡ aside → IsQueued all (old ++ aside) →
     IsQueued all (new ++ aside')
 queued_same all old new aside aside' same alike queued = subst (λ (ts : List Ticket). IsQueued all (ts ++ aside')) (sym same)

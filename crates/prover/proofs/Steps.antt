@@ -106,7 +106,7 @@ below_refused cap total m refused allowed = elim (cases_lt m total) [
   | inr le ↦ absurd (refused (allows_fewer cap total m le allowed))
 ]
 
--- what is done with up to a number is done with up to a lesser_total one
+-- what is done with up to a number is done with up to a lesser one
 pub taken_less : (board : Board) (cap lower : Option ℕ) (Kept : Scene → Type 0) (k : ℕ) (s : Scene) (p : Push) → ((m : ℕ) → Allows lower m → Allows cap m) →
     IsPushDone board cap Kept k s p → IsPushDone board lower Kept k s p
 taken_less board cap lower Kept k s p narrows taken m allowed = taken m (narrows (k + suc m) allowed)

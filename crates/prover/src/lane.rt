@@ -23,9 +23,8 @@ pub(crate) struct Job {
     pub(crate) is_done: bool,
 }
 
-/// A workspace with the jobs of a round that are done in it. What a lane finds depends on its jobs and on what was found
-/// before the round, and the jobs that it is dealt do not depend on the number of workers: so nothing that is found
-/// does.
+/// A workspace with the jobs of a round that are done in it. A lane's findings depend on its jobs and on those of
+/// earlier rounds. The jobs that it gets do not depend on the number of workers, so its findings do not either.
 #[derive(Debug, Drop)]
 pub(crate) struct Lane<'a> {
     pub(crate) workspace: Workspace<'a>,

@@ -180,7 +180,7 @@ fn problem_of(alloc: Global, level: &Level, cap: Option<u32>) -> Result<Problem,
     Problem::of(alloc, &shared, cap)
 }
 
-// The same for a problem.
+// Expands open positions of the problem until that decides it, or the search has found more than `limit` positions.
 fn run_over<R: Threads + Sync, P: Progress>(
     rt: &R,
     alloc: Global,

@@ -34,9 +34,9 @@ pub enum Aim {
     FewerMoves,
 }
 
-/// Replaces a solution of the level by a better one, if it finds one: with fewer pushes, or with as many pushes and fewer
-/// moves. It searches states that differ from those of the solution in one or two boxes, and lists at most `states` of
-/// them in all, fewer on a large grid. Moves that do not solve the level stay as they are.
+/// Replaces a solution of the level by a better one, if it finds one: with fewer pushes, or with as many pushes and
+/// fewer moves. It searches states that differ from those of the solution in one or two boxes, and lists at most
+/// `states` of them in all, fewer on a large grid. Moves that do not solve the level stay as they are.
 ///
 /// Fails only if out of memory. Then the moves are the best solution that it found.
 #[tactic(auto, using(crate::proofs::Better::no_worse_same, crate::proofs::Better::no_worse_then))]

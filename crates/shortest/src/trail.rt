@@ -126,8 +126,8 @@ impl Vicinity {
         self.walked[place] = *walked;
     }
 
-    /// How near the boxes are if the one on `from` moves to `to`. `None` if more than `most`, or more than two, differ from
-    /// each position.
+    /// How near the boxes are if the one on `from` moves to `to`. `None` if more than `most`, or more than two, differ
+    /// from each position.
     pub(crate) fn nearness(
         &self,
         boxes: &[Square],

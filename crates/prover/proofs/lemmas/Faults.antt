@@ -1,5 +1,5 @@
 -- Why a search failed.
-use Rattle.std.proofs.Common.{◌≡◌, ◌≤◌, arith, subst, sym}
+use Rattle.std.proofs.Common.{◌≡◌, arith, subst, sym}
 use Rattle.grid.specs.Board.{Board}
 use Rattle.prover.specs.Outcomes.{IsFault}
 use Rattle.prover.specs.declared.outcome.SearchFault.{SearchFault}

@@ -19,7 +19,8 @@ use Rattle.prover.specs.declared.pushing.Expanded.{Expanded}
 use Rattle.prover.specs.declared.pushing.Opened.{Opened}
 use Rattle.prover.specs.declared.queue.Ticket.{Ticket}
 use Rattle.store.specs.Visited.{Entry, VisitedView, with_least}
-use Rattle.prover.specs.Frontier.{IsReachedAfter, IsFoundWithin, IsTotal, Keeps, AreFew, AreFrom, ComesFrom, IsSearchUnderWay}
+use Rattle.prover.specs.Frontier.{IsReachedAfter, IsFoundWithin, IsTotal, Keeps, AreFew, AreFrom, ComesFrom}
+use Rattle.prover.specs.Frontier.{IsSearchUnderWay}
 
 -- ---- the queue
 
@@ -27,7 +28,7 @@ use Rattle.prover.specs.Frontier.{IsReachedAfter, IsFoundWithin, IsTotal, Keeps,
 abbrev pub Waits : List Ticket → ℕ → ℕ → Type 0
 Waits tickets least place = (t : Ticket) × Contains tickets t × (t.least.0 ≡ least) × (t.place ≡ place)
 
--- the ticket is the first, and none that waits has a lesser_total total
+-- the ticket is the first, and none that waits has a lesser total
 pub record IsFirstTicket (tickets : List Ticket) (t : Ticket) : Type 0 where
   pub at : slice_get tickets 0 ≡ Some t
   pub least : (least place : ℕ) → Waits tickets least place → t.least.0 ≤ least
@@ -92,7 +93,7 @@ pub record Enters (old new : List Entry) (e : Entry) : Type 0 where
   pub few : e.pushes ≤ length old → AreFew old → AreFew new
   pub goes_on : e.pushes ≤ length old → GetsOn old new
 
--- the position at the place is open with this least total, and no open one has a lesser_total total
+-- the position at the place is open with this least total, and no open one has a lesser total
 abbrev pub IsLeastOpen : List Entry → ℕ → ℕ → Type 0
 IsLeastOpen all place least = (x : Entry) × (slice_get all place ≡ Some x) × (x.least ≡ Some least) × AreFrom least all
 
@@ -130,7 +131,7 @@ pub record Widens (board : Board) (cap : Option ℕ) (k : ℕ) (old new : Visite
   pub below : StayBelow (suc k) old.entries new.entries
   pub goes_on : GetsOn old.entries new.entries
 
--- the lesser_total of a number, if there is one, and a total
+-- the lesser of a number, if there is one, and a total
 abbrev pub lesser_total : Option ℕ → ℕ → Option ℕ
 lesser_total None total = Some total
 lesser_total (Some next) total = Some (min next total)

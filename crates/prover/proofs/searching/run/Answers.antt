@@ -6,9 +6,10 @@ use Rattle.grid.specs.Lawful.{IsLevel}
 use Rattle.store.specs.Visited.{VisitedView}
 use Rattle.prover.specs.Fewest.{NoneHasFewer}
 use Rattle.prover.specs.Frontier.{NoneIsOpen}
+use Rattle.prover.specs.inside.SearchEnds.{IsFloor}
 use Rattle.prover.specs.inside.Working.{IsLeastOpen, KeepPlaces, IsSearchOnBoard, turns_left}
 use Rattle.prover.proofs.Dealing.{lanes_on, ready_by, waits_by}
-use Rattle.prover.proofs.Endings.{floor_then, has_more, none_is_allowed, solved_told}
+use Rattle.prover.proofs.Endings.{floor_on, has_more, none_is_allowed, solved_told, under_way_on}
 use Rattle.prover.proofs.Steps.{rounds_lessen, turns_then}
 use Rattle.prover.proofs.searching.run.Goals as goal
 
@@ -16,32 +17,24 @@ pub returns-then-solved-clause-tells : goal.returns-then-solved-clause-tells
 returns-then-solved-clause-tells g c =
     let found : IsLeastOpen c.least_open.new.self.entries c.in-Some.place c.in-Some.least = search rules in
     let board = c.args.pruner.now.board in
-    let cap = c.args.pruner.now.cap in
-    let searched = subst (λ (v : VisitedView). IsSearchOnBoard board cap v) (sym c.least_open.ensures.same) c.loop-desk.invariant.searched in
     let level : IsLevel board = subst (λ (b : Board). IsLevel b) c.level.ensures c.tell.ensures in
-    solved_told board cap c.least_open.new.self.entries c.in-Some.place c.in-Some.least level searched.under_way found
+    solved_told board c.args.pruner.now.cap c.least_open.new.self.entries c.in-Some.place c.in-Some.least level
+    (under_way_on c.least_open.ensures.same c.loop-desk.invariant.searched) found
     (λ x at. subst (λ (s : Scene). IsSolved board s) (c.position.ensures x at)
     (subst (λ (b : Board). IsSolved b c.position.result) c.level-in-Some-2.ensures (c.is_solved-solved.ensures.0 c.if-solved.true)))
 
 pub returns-then-len-limit-clause-tells : goal.returns-then-len-limit-clause-tells
 returns-then-len-limit-clause-tells g c =
-    let found : IsLeastOpen c.least_open.new.self.entries c.in-Some.place c.in-Some.least = search rules in
-    let board = c.args.pruner.now.board in
-    let cap = c.args.pruner.now.cap in
-    let all = c.least_open.new.self.entries in
-    let searched = subst (λ (v : VisitedView). IsSearchOnBoard board cap v) (sym c.least_open.ensures.same) c.loop-desk.invariant.searched in
-    let level : IsLevel board = subst (λ (b : Board). IsLevel b) c.level.ensures c.tell.ensures in
-    let many : c.args.limit < length all = search rules in
-    has_more board cap all c.args.limit searched.under_way c.tell-then-len-limit.ensures many
+    let many : c.args.limit < length c.least_open.new.self.entries = search rules in
+    has_more c.args.pruner.now.board c.args.pruner.now.cap c.least_open.new.self.entries c.args.limit
+    (under_way_on c.least_open.ensures.same c.loop-desk.invariant.searched) c.tell-then-len-limit.ensures many
 
 pub returns-clause-tells : goal.returns-clause-tells
 returns-clause-tells g c =
     let none : NoneIsOpen c.least_open.new.self.entries = search rules in
-    let board = c.args.pruner.now.board in
-    let cap = c.args.pruner.now.cap in
-    let searched = subst (λ (v : VisitedView). IsSearchOnBoard board cap v) (sym c.least_open.ensures.same) c.loop-desk.invariant.searched in
-    let level : IsLevel board = subst (λ (b : Board). IsLevel b) c.level.ensures c.tell.ensures in
-    none_is_allowed board cap c.least_open.new.self.entries level searched.under_way none
+    let level : IsLevel c.args.pruner.now.board = subst (λ (b : Board). IsLevel b) c.level.ensures c.tell.ensures in
+    none_is_allowed c.args.pruner.now.board c.args.pruner.now.cap c.least_open.new.self.entries level
+    (under_way_on c.least_open.ensures.same c.loop-desk.invariant.searched) none
 
 pub expand-requires-clause-waits : goal.expand-requires-clause-waits
 expand-requires-clause-waits g c =
@@ -93,18 +86,12 @@ expanded-first-requires-clause-place g c =
     slice_get_within c.least_open.new.self.entries c.in-Some.place found.0 found.1
 
 pub loop-desk-preserved : goal.loop-desk-preserved
-loop-desk-preserved g c =
-    let found : IsLeastOpen c.least_open.new.self.entries c.in-Some.place c.in-Some.least = search rules in
-    let board = c.args.pruner.now.board in
-    let cap = c.args.pruner.now.cap in
-    let searched = subst (λ (v : VisitedView). IsSearchOnBoard board cap v) (sym c.least_open.ensures.same) c.loop-desk.invariant.searched in
-    let level : IsLevel board = subst (λ (b : Board). IsLevel b) c.level.ensures c.tell.ensures in
-    record {
-      searched = c.in_ok-expand_more.ensures.searched;
-      floor = floor_then board cap c.least_open.new.self.entries c.in-Some.place c.in-Some.least c.loop-desk.reach c.max.result c.max.ensures
-          level searched.under_way found c.loop-desk.invariant.floor;
-      desk = c.in_ok-expand_more.ensures.desk;
-    }
+loop-desk-preserved g c = record {
+  searched = c.in_ok-expand_more.ensures.searched;
+  floor = floor_on c.in-Some.place c.in-Some.least c.least_open.ensures.same c.level.ensures c.tell.ensures c.loop-desk.invariant.searched
+      (search rules) c.max.ensures c.loop-desk.invariant.floor;
+  desk = c.in_ok-expand_more.ensures.desk;
+}
 
 pub loop-desk-smaller : goal.loop-desk-smaller
 loop-desk-smaller g c =
@@ -119,51 +106,28 @@ loop-desk-smaller g c =
 
 pub returns-then-solved-clause-floor : goal.returns-then-solved-clause-floor
 returns-then-solved-clause-floor g c =
-    let found : IsLeastOpen c.least_open.new.self.entries c.in-Some.place c.in-Some.least = search rules in
-    let board = c.args.pruner.now.board in
-    let cap = c.args.pruner.now.cap in
-    let searched = subst (λ (v : VisitedView). IsSearchOnBoard board cap v) (sym c.least_open.ensures.same) c.loop-desk.invariant.searched in
-    let level : IsLevel board = subst (λ (b : Board). IsLevel b) c.level.ensures c.tell.ensures in
-    floor_then board cap c.least_open.new.self.entries c.in-Some.place c.in-Some.least c.loop-desk.reach c.max.result c.max.ensures level
-    searched.under_way found c.loop-desk.invariant.floor
+    floor_on c.in-Some.place c.in-Some.least c.least_open.ensures.same c.level.ensures c.tell.ensures c.loop-desk.invariant.searched
+    (search rules) c.max.ensures c.loop-desk.invariant.floor
 
 pub returns-then-len-limit-clause-floor : goal.returns-then-len-limit-clause-floor
 returns-then-len-limit-clause-floor g c =
-    let found : IsLeastOpen c.least_open.new.self.entries c.in-Some.place c.in-Some.least = search rules in
-    let board = c.args.pruner.now.board in
-    let cap = c.args.pruner.now.cap in
-    let searched = subst (λ (v : VisitedView). IsSearchOnBoard board cap v) (sym c.least_open.ensures.same) c.loop-desk.invariant.searched in
-    let level : IsLevel board = subst (λ (b : Board). IsLevel b) c.level.ensures c.tell.ensures in
-    floor_then board cap c.least_open.new.self.entries c.in-Some.place c.in-Some.least c.loop-desk.reach c.max.result c.max.ensures level
-    searched.under_way found c.loop-desk.invariant.floor
+    floor_on c.in-Some.place c.in-Some.least c.least_open.ensures.same c.level.ensures c.tell.ensures c.loop-desk.invariant.searched
+    (search rules) c.max.ensures c.loop-desk.invariant.floor
 
 pub returns-in_err-expand-clause-floor : goal.returns-in_err-expand-clause-floor
 returns-in_err-expand-clause-floor g c =
-    let found : IsLeastOpen c.least_open.new.self.entries c.in-Some.place c.in-Some.least = search rules in
-    let board = c.args.pruner.now.board in
-    let cap = c.args.pruner.now.cap in
-    let searched = subst (λ (v : VisitedView). IsSearchOnBoard board cap v) (sym c.least_open.ensures.same) c.loop-desk.invariant.searched in
-    let level : IsLevel board = subst (λ (b : Board). IsLevel b) c.level.ensures c.tell.ensures in
-    floor_then board cap c.least_open.new.self.entries c.in-Some.place c.in-Some.least c.loop-desk.reach c.max.result c.max.ensures level
-    searched.under_way found c.loop-desk.invariant.floor
+    floor_on c.in-Some.place c.in-Some.least c.least_open.ensures.same c.level.ensures c.tell.ensures c.loop-desk.invariant.searched
+    (search rules) c.max.ensures c.loop-desk.invariant.floor
 
 pub returns-in_err-expand_more-clause-floor : goal.returns-in_err-expand_more-clause-floor
 returns-in_err-expand_more-clause-floor g c =
-    let found : IsLeastOpen c.least_open.new.self.entries c.in-Some.place c.in-Some.least = search rules in
-    let board = c.args.pruner.now.board in
-    let cap = c.args.pruner.now.cap in
-    let searched = subst (λ (v : VisitedView). IsSearchOnBoard board cap v) (sym c.least_open.ensures.same) c.loop-desk.invariant.searched in
-    let level : IsLevel board = subst (λ (b : Board). IsLevel b) c.level.ensures c.tell.ensures in
-    floor_then board cap c.least_open.new.self.entries c.in-Some.place c.in-Some.least c.loop-desk.reach c.max.result c.max.ensures level
-    searched.under_way found c.loop-desk.invariant.floor
+    floor_on c.in-Some.place c.in-Some.least c.least_open.ensures.same c.level.ensures c.tell.ensures c.loop-desk.invariant.searched
+    (search rules) c.max.ensures c.loop-desk.invariant.floor
 
 pub note-requires : goal.note-requires
 note-requires g c =
-    let found : IsLeastOpen c.least_open.new.self.entries c.in-Some.place c.in-Some.least = search rules in
     let board = c.args.pruner.now.board in
-    let cap = c.args.pruner.now.cap in
-    let searched = subst (λ (v : VisitedView). IsSearchOnBoard board cap v) (sym c.least_open.ensures.same) c.loop-desk.invariant.searched in
-    let level : IsLevel board = subst (λ (b : Board). IsLevel b) c.level.ensures c.tell.ensures in
-    let floor = floor_then board cap c.least_open.new.self.entries c.in-Some.place c.in-Some.least c.loop-desk.reach c.max.result c.max.ensures level
-    searched.under_way found c.loop-desk.invariant.floor in
+    let floor : IsFloor board c.args.pruner.now.cap c.max.result =
+    floor_on c.in-Some.place c.in-Some.least c.least_open.ensures.same c.level.ensures c.tell.ensures c.loop-desk.invariant.searched
+    (search rules) c.max.ensures c.loop-desk.invariant.floor in
     subst (λ (b : Board). NoneHasFewer b c.max.result) (sym c.level-in-Some.ensures) floor.0
