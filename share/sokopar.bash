@@ -10,7 +10,7 @@ _sokopar() {
         replay) options="--help" ;;
         solve) options="--workers --locks --limit --max-pushes --lurd --help" ;;
         best) options="--from --to --workers --limit --max-pushes --moves --table --lurd --progress --help" ;;
-        prove) options="--solutions --from --to --workers --limit --moves --lurd --progress --help" ;;
+        prove) options="--solutions --from --to --workers --limit --moves --table --lurd --progress --help" ;;
         *) options= ;;
     esac
     if [ "$COMP_CWORD" = 1 ]; then

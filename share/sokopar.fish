@@ -45,6 +45,7 @@ complete -c sokopar -n '__fish_seen_subcommand_from prove' -l to -x -d 'Without 
 complete -c sokopar -n '__fish_seen_subcommand_from prove' -l workers -x -d 'Number of threads [default: 1]'
 complete -c sokopar -n '__fish_seen_subcommand_from prove' -l limit -x -d 'Stops beyond L positions [default: 1000000]'
 complete -c sokopar -n '__fish_seen_subcommand_from prove' -l moves -d 'Also decides which moves are the fewest'
+complete -c sokopar -n '__fish_seen_subcommand_from prove' -l table -d 'Without N: a table, with tabs between its columns'
 complete -c sokopar -n '__fish_seen_subcommand_from prove' -l lurd -d 'Prints only the solution, without the first line'
 complete -c sokopar -n '__fish_seen_subcommand_from prove' -l progress -d 'Shows bounds and positions on standard error'
 complete -c sokopar -n '__fish_seen_subcommand_from prove' -s h -l help -d 'Print help'

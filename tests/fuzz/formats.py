@@ -303,8 +303,27 @@ def nearest_exit(board):
     return []
 
 
+def picture(board):
+    """The rows of a board as they were read, with the dead squares of a lawful level."""
+    rows = [bytearray(row) for row in board.rows]
+    for r, c in set() if board.fault else board.open - board.live():
+        if rows[r][c] == ord("$"):
+            rows[r][c] = ord("!")
+        elif rows[r][c] == ord(" ") and (r, c) in board.room:
+            rows[r][c] = ord("x")
+    return b"".join(row.rstrip(b" ") + b"\n" for row in rows)
+
+
+def excess(board, places):
+    """Where a board has too many rows, or else a row that is too long."""
+    if board.height > MOST_ROWS:
+        return f"row {MOST_ROWS + 1} is at line {places[MOST_ROWS][0]}"
+    first = next(place for place, row in zip(places, board.rows) if len(row.rstrip(b" ")) > MOST_COLUMNS)
+    return f"line {first[0]} has a row with more than {MOST_COLUMNS} columns"
+
+
 def explained(board, places, is_wanted):
-    """What is written below the line of a level, without the square at which the player gets out."""
+    """What is written below the line of a level; where the player gets out, a list of what may be."""
 
     def at(square):
         line, is_plain = places[square[0]]
@@ -326,19 +345,19 @@ def explained(board, places, is_wanted):
             said = ["unsolvable: some of these boxes are frozen, not all of them on goals",
                     *sentences("a box is", found[1])]
     elif board.fault[0] in "12":
-        said, shown = ["it has more rows or columns than a level may have"], False
+        said, shown = [excess(board, places)], False
     elif board.fault[0] in "56":
         said = sentences("a box is", board.boxes) + sentences("a goal is", board.goals)
     elif board.fault[0] == "7":
-        said = [[f"the player gets out at {at(square)}" for square in nearest_exit(board)]]
+        said, shown = [[f"the player gets out at {at(square)}" for square in nearest_exit(board)]], True
     else:
         said = sentences("a player is", board.squares(b"@+"))
-    return said, b"".join(row.rstrip(b" ") + b"\n" for row in board.rows) if shown else b""
+    return said, picture(board) if shown else b""
 
 
 def explain(data, wanted):
     """The statuses and reports of `explain` that are right, for all levels or the wanted one."""
-    parts, lines, sound = parts_of(data), [], True
+    parts, sound = parts_of(data), True
     boards = [Board(*part[:3]) for part in parts]
     firsts = [0] + [board.first for board in boards] + [len(data) + 2]
     if wanted is not None and wanted > len(boards):
@@ -353,7 +372,7 @@ def explain(data, wanted):
         if number > len(boards) or wanted not in (None, number):
             continue
         board = boards[number - 1]
-        said, picture = explained(board, parts[number - 1][3], wanted is not None)
+        said, rows = explained(board, parts[number - 1][3], wanted is not None)
         if board.fault is None and not said:
             continue
         judged = f"fault {board.fault}" if board.fault else f"ok {board.height}x{board.width} {len(board.boxes)} boxes"
@@ -362,7 +381,7 @@ def explain(data, wanted):
         sound = sound and is_sound
         ways = said[0] if said and isinstance(said[0], list) else None
         bodies = [[way] for way in ways] if ways else [said]
-        texts = [old + head + b"".join(line(f"  {one}") for one in body) + picture
+        texts = [old + head + b"".join(line(f"  {one}") for one in body) + rows
                  for old in texts for body in bodies]
     good = sum(board.fault is None for board in boards)
     totals = line(f"{len(boards)} levels, {good} good") if wanted is None else b""

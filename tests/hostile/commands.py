@@ -19,6 +19,7 @@ SOLUTION = b"R"
 # a command over files, by their names: its words, and the reports that it may write for their bytes
 COMMANDS = {
     "check": (["check", "FILE"], lambda file, _: formats.check(file)),
+    "explain": (["explain", "FILE", "1"], lambda file, _: explained(file)),
     "show": (["show", "FILE", "1"], lambda file, _: formats.show(file, 1)),
     "dead": (["dead", "FILE", "1"], lambda file, _: formats.dead(file, 1)),
     "replay": (["replay", "FILE", "1", "MOVES"], lambda file, moves: formats.replay(file, 1, moves)),
@@ -31,6 +32,13 @@ COMMANDS = {
 }
 # what is read after the collection, where the level is lawful
 SECOND = {"replay": MOVES, "prove": SOLUTION, "record": SOLUTION}
+
+
+def explained(file):
+    """The status and the report of `explain` of level 1. In these files one square alone is nearest to the player of
+    those where the player gets out."""
+    report, = formats.explain(file, 1)
+    return report
 
 
 def solved(file):

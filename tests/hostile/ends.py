@@ -50,8 +50,8 @@ def reading(bench):
 def writing(bench):
     """Each write fails in turn; reports go a byte at a time, or not at all."""
     for command in COMMANDS:
-        words, (status, text, _) = bench.words(command, ROOM if command == "dead" else ONE, MOVES), (0, b"", b"")
-        status, text = COMMANDS[command][1](ROOM if command == "dead" else ONE, MOVES)
+        file = ROOM if command in ("dead", "explain") else ONE
+        words, (status, text) = bench.words(command, file, MOVES), COMMANDS[command][1](file, MOVES)
         got, (_, writes, _) = bench.strange(words, WRITE_MOST=1)
         yield f"{command}, a byte a write", differs((got, writes), ((status, text, b""), len(text)))
         got, (_, writes, _) = bench.strange(words, WRITE_MOST=0)
@@ -106,7 +106,7 @@ def fed(bench, words, path, data):
 def pipes(bench):
     """Pipes whose writer goes away, as a file and as standard input."""
     for length in range(len(TWO) + 1):
-        for command in ("check", "show", "dead", "best"):
+        for command in ("check", "explain", "show", "dead", "best"):
             path, report = os.path.join(bench.folder, f"pipe{next(bench.numbers)}"), COMMANDS[command][1](
                 TWO[:length], b"")
             yield f"{command} of a pipe of {length} bytes", differs(
@@ -180,13 +180,14 @@ def beginnings(bench):
 
 
 def longest(bench):
-    """Files of the greatest length, and of one byte more."""
+    """Files of the greatest length, and of one byte more; a name of 64 KB."""
     tall = b"9999#|" * 2_796_202
     fault = (1, b"fault 1 TooTall\n", b"")
+    told = (1, b"1 line 1 fault 1 TooTall\n  row 256 is at line 1\n", b"")
     checked = (1, b"1 line 1 fault 1 TooTall\n1 levels, 0 good\n", b"")
     none = (1, b"no level 1\n", b"")
     tried = (1, b"1 fault 1 TooTall\n1 levels, 0 optimal, 0 unsolvable, 0 open, 1 not judged\n", b"")
-    cases = ((tall, fault, {"check": checked, "each": tried}),
+    cases = ((tall, fault, {"check": checked, "explain": told, "each": tried}),
              (tall + b"9999", none, {"check": (0, b"0 levels, 0 good\n", b"")}),
              (tall + b"9999#", TOO_LONG, {}))
     for data, said, others in cases:
@@ -195,6 +196,13 @@ def longest(bench):
             got = bench.run(bench.words(command, path))
             yield f"{command} of {len(data)} bytes", differs(got, others.get(command, said))
         os.remove(path)
+    loose = b"line 1 has a wall and is no row: byte 16777213 begins a count that no cell follows\n0 levels, 0 good\n"
+    got = bench.run([bench.program, "explain", bench.file(tall + b"9999")])
+    yield "explain of a row of the greatest length that breaks at its end", differs(got, (1, loose, b""))
+    named = b"; " + b"x" * 65_536 + TWO[25:]
+    for command in ("check", "explain"):
+        yield f"{command} of a name of 64 KB", differs(bench.run(bench.words(command, named)),
+                                                       well(COMMANDS[command][1](named, b"")))
     for more, told in ((0, (1, b"unsolved 0 pushes, 0 moves\n", b"")), (1, TOO_LONG)):
         yield f"replay of {MOST + more} blanks", differs(bench.run(bench.words("replay", ONE, b" " * (MOST + more))),
                                                          told)

@@ -115,6 +115,16 @@ def bounds(bench):
         yield f"{words[0]} of {name}, {len(file) + len(moves)} bytes, within {most} bytes", fault
 
 
+def telling(bench):
+    """`explain` within the stated memory, which depends on the length of its report."""
+    for name, file in (*worst.collections(), *((name, worst.filled(part)) for name, part in worst.TOLD.items())):
+        words = ["explain", bench.file(file)]
+        report = bench.run([bench.program, *words])
+        most = worst.FIXED + worst.A_BYTE * len(file) + int(worst.A_BYTE_TOLD * len(report[1]))
+        fault = None if within(bench, words, most >> 10) == report else f"another report within {most} bytes"
+        yield f"explain of {name}, {len(file)} bytes, within {most} bytes", fault
+
+
 def memory_stated(pattern):
     """The bytes that README states, in MB."""
     with open(os.path.join(ROOT, "README.md"), encoding="utf-8") as it:

@@ -2,9 +2,10 @@
 table)."""
 
 # the bytes that a run of any command except `solve`, `best` and `prove` takes at most: FIXED, and A_BYTE for each byte
-# of its files
+# of its files; and `explain` A_BYTE_TOLD more for each byte of its report
 FIXED = 8 << 20
 A_BYTE = 20
+A_BYTE_TOLD = 2.25
 
 SIZE = 1 << 20
 MOST = 1 << 24
@@ -27,6 +28,14 @@ PARTS = {
     "boards with titles": b"#\nTitle:x\n",
     "small levels": b"4#|#@*#|4#\n\n",
     "levels of many cells": MOST_CELLS,
+}
+
+
+# those of which `explain` says most
+TOLD = {
+    "boxes in counts": b"#@20$19.\n\n",
+    "open boards of many cells": b"#@$.|" + b"255#|" * 250 + b"\n\n",
+    "broken rows between boards": b"#\n#\t\n",
 }
 
 

@@ -234,6 +234,9 @@ first_to_prove m given search asks = given asks.no_first
 pub last_to_prove : (m : List Row) → ¬ (LacksText m (codes "to")) → (search : ProveRequest) → ¬ (AsksToProve m search)
 last_to_prove m given search asks = given asks.no_last
 
+pub table_to_prove : (m : List Row) → ¬ (HasFlag m (codes "table") false) → (search : ProveRequest) → ¬ (AsksToProve m search)
+table_to_prove m given search asks = given asks.no_table
+
 pub level_of_solutions : (m : List Row) → ¬ (LacksText m (codes "N")) → (search : SolutionsRequest) → ¬ (AsksForSolutions m search)
 level_of_solutions m given search asks = given asks.no_level
 

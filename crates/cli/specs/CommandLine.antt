@@ -27,7 +27,7 @@ arguments_of Solve = File ∷ Number ∷ Workers ∷ Locks ∷ Limit ∷ MaxPush
 arguments_of Best = File ∷ OptionalNumber ∷ From ∷ To ∷ Workers ∷ Limit ∷ MaxPushes ∷ Moves ∷ Table ∷
     Lurd ∷ Progress ∷ []
 arguments_of Prove = File ∷ OptionalNumber ∷ OptionalSolution ∷ Solutions ∷ From ∷ To ∷ Workers ∷ Limit ∷ Moves ∷
-    Lurd ∷ Progress ∷ []
+    Table ∷ Lurd ∷ Progress ∷ []
 
 -- clap's rule for an operand that must be given, and for one that may be left out
 abbrev pub operand : List ℕ → Rule

@@ -55,8 +55,9 @@ pub record AsksForLevels (arguments : List Row) (search : CollectionRequest) : T
   pub table : HasFlag arguments (codes "table") search.table
   pub settings : HasSettings arguments search.config
 
--- the level and the settings of `prove` are the numbers of the arguments, and neither a folder nor a range of levels is
--- given; it looks for the fewest moves, and writes only a solution, exactly if the flags are given
+-- the level and the settings of `prove` are the numbers of the arguments, and neither a folder nor a range of levels nor
+-- the flag for a table is given; it looks for the fewest moves, and writes only a solution, exactly if the flags are
+-- given
 pub record AsksToProve (arguments : List Row) (search : ProveRequest) : Type 0 where
   pub level : HasNumber arguments (codes "N") MOST search.number
   pub workers : HasNumber arguments (codes "workers") MOST_WORKERS search.workers
@@ -65,6 +66,7 @@ pub record AsksToProve (arguments : List Row) (search : ProveRequest) : Type 0 w
   pub no_folder : LacksText arguments (codes "solutions")
   pub no_first : LacksText arguments (codes "from")
   pub no_last : LacksText arguments (codes "to")
+  pub no_table : HasFlag arguments (codes "table") false
   pub lurd : HasFlag arguments (codes "lurd") search.lurd
 
 -- no level and no solution are given, and the range of levels and the settings of `prove` are the numbers of the
@@ -78,6 +80,7 @@ pub record AsksForSolutions (arguments : List Row) (search : SolutionsRequest) :
   pub workers : HasNumber arguments (codes "workers") MOST_WORKERS search.workers
   pub limit : HasNumber arguments (codes "limit") MOST search.limit
   pub moves : HasFlag arguments (codes "moves") search.moves
+  pub table : HasFlag arguments (codes "table") search.table
 
 -- no level is given, or this one by its number
 abbrev pub MayHaveLevel : List Row → Option ℕ → Type 0

@@ -49,8 +49,9 @@ const STATUSES: &str = "\
 Exit status:
   0  good: all levels lawful, the level shown, mapped or solved, the solution
      solves it or is optimal; help or the version was asked for
-  1  a fault in a level or a solution, no such level, not solved, unsolvable, no
-     solution with so few pushes, not optimal, or too many boxes to solve
+  1  as the report says: 'fault' (of a level), 'no level', 'unsolvable', 'none
+     within' (so few pushes), 'too many boxes'; of a solution 'not optimal' (it
+     is beaten), 'unsolved', 'blocked', 'wrong case', 'bad', 'too many moves'
   2  a fault of the command line
   3  a file cannot be opened, read or written, or is too long
   4  the limit of positions was passed
@@ -111,7 +112,9 @@ fn check_notes(alloc: Global) -> Result<String, AllocError> {
                         2550#.\
         {FAULTS}\n\n{MISSING}\n\n\
         'sokopar explain' names the squares of a fault, and lines of text with a wall.\n\n\
-        Example:\n  sokopar check levels.xsb"
+        Examples (FILE is one file; the second one checks many):\n  \
+          sokopar check levels.xsb\n  \
+          for f in *.xsb; do echo \"$f\"; sokopar check \"$f\"; done"
     )
 }
 
@@ -153,10 +156,11 @@ const TEXT_FAULTS: &str = "
 
 /// The end of the help of `explain`.
 pub(crate) const EXPLAIN: &str = "\
-With N, explain tells of level N, also if nothing is found against it. Without N
-it goes through FILE, and tells of each level against which it finds something,
-and of lines with a wall that are no rows: such a line ends a level. Places are
-lines and columns of FILE, counted from 1.
+With N, explain tells of level N, also if nothing is found against it, and shows
+it. In a level that check calls ok, x is then a dead square, and ! a box on one.
+Without N it goes through FILE, and tells of each level against which it finds
+something, and of lines with a wall that are no rows: such a line ends a level.
+Places are lines and columns of FILE, counted from 1.
 
 For a level that check calls ok it looks for boxes on dead squares and frozen
 boxes at the start. If it finds none, the level may still be unsolvable.
@@ -353,8 +357,12 @@ its levels from --from to --to. It prints a line for each level N of which the
 folder has a file N.lurd, as soon as that is decided, and the totals:
   7 optimal P pushes, S moves            Level 7: as above, on one line.
   8 cannot read                          The file cannot be opened or read.
+  T levels, .. optimal, .. beaten, .. open, .. not judged, .. without a solution
 The exit status is 0 if all that have a solution are optimal, else 5 if one ran
-out of memory, else 3 if one cannot be read, else 4 if one is open, else 1.";
+out of memory, else 3 if one cannot be read, else 4 if one is open, else 1.
+
+With --table, prove prints a table as best does. The verdict is optimal, beaten
+(a better solution is in the last columns), open, or why there is none.";
 
 /// How `prove` compares with `replay` and `best`, its memory, and examples, in the help of `prove`.
 const PROOF: &str = "\

@@ -260,6 +260,9 @@ fn prove_request<'a>(matches: &ArgMatches<'a>) -> Result<ProveRequest, BadArgume
     let moves = has_flag(matches, "moves");
     lacks(matches, "from", "--from <A>", "[N]")?;
     lacks(matches, "to", "--to <B>", "[N]")?;
+    let argument = "--table";
+    let other = "[N]";
+    lacks_flag(matches, "table", BadArgument::Beside { argument, other })?;
     let lurd = has_flag(matches, "lurd");
     Ok(ProveRequest {
         number,
@@ -284,9 +287,11 @@ fn solutions_request<'a>(matches: &ArgMatches<'a>) -> Result<SolutionsRequest, B
     let workers = workers_of(matches)?;
     let limit = limit_of(matches)?;
     let moves = has_flag(matches, "moves");
+    let table = has_flag(matches, "table");
     Ok(SolutionsRequest {
         from,
         to,
+        table,
         workers: workers as u8,
         limit,
         moves,

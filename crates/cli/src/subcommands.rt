@@ -140,6 +140,7 @@ impl Subcommand {
                 Argument::Workers,
                 Argument::Limit,
                 Argument::Moves,
+                Argument::Table,
                 Argument::Lurd,
                 Argument::Progress,
             ],

@@ -3,29 +3,34 @@ use Rattle.std.proofs.Common.{◌≡◌, ℕ, suc, ◌+◌, ◌<◌, ◌≤◌, 
 use Rattle.std.proofs.Common.{Ok, Err, OnOk, arith, IfOk, IfSome, is_none, append_assoc, append-nil}
 use Rattle.std.proofs.lemmas.Bool.{false≢true}
 use Rattle.grid.specs.Board.{Board}
+use Rattle.grid.specs.declared.fault.LevelFault.{LevelFault}
 use Rattle.xsb.specs.Collection.{Found, IsJudged}
 use Rattle.xsb.specs.Entries.{IsBoardEntry}
 use Rattle.xsb.specs.declared.entry.BoardEntry.{BoardEntry}
 use Rattle.xsb.specs.Breaks.{IsBroken}
-use Rattle.xsb.specs.Places.{IsBoardAt}
+use Rattle.xsb.specs.Places.{IsBoardAt, IsExcess}
 use Rattle.xsb.specs.declared.breaks.BrokenRow.{BrokenRow}
 use Rattle.xsb.specs.declared.breaks.BrokenRows.{BrokenRows}
 use Rattle.xsb.specs.declared.limits.TheConstants.{MAX_FILE}
+use Rattle.xsb.specs.declared.places.BoardRows.{BoardRows}
 use Rattle.xsb.specs.declared.places.BoardSource.{BoardSource}
+use Rattle.xsb.specs.declared.places.Excess.{Excess}
 use Rattle.xsb.specs.declared.places.RowPlace.{RowPlace}
 use Rattle.xsb.specs.declared.reader.Collection.{Collection}
 use Rattle.xsb.specs.inside.Cursors.{IsAt}
 use Rattle.xsb.specs.inside.Progress.{HasRead, lines_left}
-use Rattle.xsb.specs.inside.Sources.{GivesSource}
+use Rattle.xsb.specs.inside.Sources.{AreRowsOf, GivesSource, HasRowsFor}
 use Rattle.sokopar.specs.Entries.{listed_of}
-use Rattle.sokopar.specs.Explaining.{Explains, IsExplainReport, explained, IsTrueOf, broken_line, is_quiet, is_sound, is_wanted, level_text, broken, other, told}
+use Rattle.sokopar.specs.Explaining.{Explains, IsExplainReport, explained, IsPicture, IsTrueOf, broken_line, drawn, is_drawn, is_quiet, is_sound, is_wanted}
+use Rattle.sokopar.specs.Explaining.{excess_words, level_text, remark_words, broken, large, other, told}
 use Rattle.sokopar.specs.Listing.{Listed, IsLevelListing}
 use Rattle.sokopar.specs.Report.{Report, check_line}
 use Rattle.sokopar.specs.declared.explain.Broken.{Broken}
 use Rattle.sokopar.specs.declared.explain.Page.{Page}
 use Rattle.sokopar.specs.declared.remark.Remark.{Remark}
-use Rattle.sokopar.specs.inside.Explaining.{HaveBroken}
-use Rattle.sokopar.specs.inside.Pages.{Adds, IsPage, IsSourceOf}
+use Rattle.sokopar.specs.declared.remark.Remark.TheVariants.{Players, Unequal, Exit, DeadBoxes, Frozen, Sound}
+use Rattle.sokopar.specs.inside.Explaining.{HaveBroken, board_in}
+use Rattle.sokopar.specs.inside.Pages.{Adds, IsPage, IsSourceOf, Tells}
 use Rattle.sokopar.specs.inside.Parts.{is_good}
 use Rattle.sokopar.proofs.Listings.{HasChecked, checked-more, checked-none}
 
@@ -90,13 +95,15 @@ page-passed {bytes} {wanted} {listing} {page} {gap} new left is rest same = reco
 pub level-told : (bytes : List ℕ) (wanted : Option ℕ) (number : ℕ) (listing : List Listed) (listed : Listed) (board : Board)
     (places : List RowPlace) (remark : Remark) (old new : Page) → number ≡ suc (length listing) → is_wanted wanted number ≡ true →
     IsBoardAt bytes listed.first_line board places → IsJudged board listed.board → IsTrueOf board remark →
-    Adds (level_text wanted number listed board places remark) (is_sound remark) old new →
+    Tells wanted number listed board places remark old new →
     Explains bytes wanted listing old.text old.sound → Explains bytes wanted (listing ++ listed ∷ []) new.text new.sound
-level-told bytes wanted number listing listed board places remark old new count is at_line judged true_of adds before =
+level-told bytes wanted number listing listed board places remark old new count is at_line judged true_of tells before =
+    let picture = tells.0 in
+    let adds = tells.2 in
     subst (λ s. Explains bytes wanted (listing ++ listed ∷ []) new.text s) (sym adds.1)
     (subst (λ t. Explains bytes wanted (listing ++ listed ∷ []) t (old.sound && is_sound remark))
-    (sym (adds.0 ∙ ap (λ n. old.text ++ level_text wanted n listed board places remark) count))
-    (told listed board places remark before (ap (is_wanted wanted) (sym count) ∙ is) at_line judged true_of))
+    (sym (adds.0 ∙ ap (λ n. old.text ++ level_text wanted n listed board places remark picture) count))
+    (told listed board places remark picture before (ap (is_wanted wanted) (sym count) ∙ is) at_line judged true_of tells.1))
 
 -- or it is another one
 pub level-other : (bytes : List ℕ) (wanted : Option ℕ) (number : ℕ) (listing : List Listed) (listed : Listed) (old new : Page) →
@@ -123,49 +130,116 @@ quiet-sound true true none is = refl
 quiet-sound true false none is = refl
 quiet-sound false so_far none is = absurd (false≢true is)
 
+-- a level of which nothing is written is not drawn
+quiet-undrawn : (remark : Remark) (wanted : Option ℕ) → is_quiet remark wanted ≡ true → is_drawn remark wanted ≡ true → ⊥
+quiet-undrawn (Players squares) wanted quiet shown = false≢true quiet
+quiet-undrawn (Unequal boxes goals) wanted quiet shown = false≢true quiet
+quiet-undrawn (Exit q) wanted quiet shown = false≢true quiet
+quiet-undrawn (DeadBoxes squares) wanted quiet shown = false≢true quiet
+quiet-undrawn (Frozen squares) wanted quiet shown = false≢true quiet
+quiet-undrawn Sound None quiet shown = false≢true shown
+quiet-undrawn Sound (Some n) quiet shown = false≢true quiet
+
 -- nothing is written of a level
-pub adds-nothing : (remark : Remark) (wanted : Option ℕ) (page : Page) (more : List ℕ) → is_quiet remark wanted ≡ true →
-    Adds (cond (is_quiet remark wanted) [] more) (is_sound remark) page page
-adds-nothing remark wanted page more is = (
-  sym (append-nil page.text) ∙ ap (λ (b : Bool). page.text ++ cond b [] more) (sym is),
-  quiet-sound (is_sound remark) page.sound (is_none wanted) is,
-)
+pub tells-nothing : (wanted : Option ℕ) (n : ℕ) (listed : Listed) (board : Board) (places : List RowPlace) (remark : Remark) (page : Page) →
+    is_quiet remark wanted ≡ true → Tells wanted n listed board places remark page page
+tells-nothing wanted n listed board places remark page is =
+    let more = check_line n listed ++ remark_words board.cols places remark ++ cond (is_drawn remark wanted) (drawn board []) [] in (
+      [],
+      λ shown. absurd (quiet-undrawn remark wanted is shown),
+      (
+        sym (append-nil page.text) ∙ ap (λ (b : Bool). page.text ++ cond b [] more) (sym is),
+        quiet-sound (is_sound remark) page.sound (is_none wanted) is,
+      ),
+    )
 
 -- a level is written about
-pub adds-text : (remark : Remark) (wanted : Option ℕ) (old new : Page) (more : List ℕ) → is_quiet remark wanted ≡ false →
-    new.text ≡ old.text ++ more → new.sound ≡ (old.sound && is_sound remark) →
-    Adds (cond (is_quiet remark wanted) [] more) (is_sound remark) old new
-adds-text remark wanted old new more is text found = (text ∙ ap (λ (b : Bool). old.text ++ cond b [] more) (sym is), found)
+module _ (wanted : Option ℕ) (n : ℕ) (listed : Listed) (board : Board) (places : List RowPlace) (remark : Remark) (old new : Page) (one two : List ℕ)
+    (loud : is_quiet remark wanted ≡ false) (head : one ≡ old.text ++ check_line n listed) (said : two ≡ one ++ remark_words board.cols places remark)
+    (found : new.sound ≡ (old.sound && is_sound remark)) where
+  -- with its board or without it
+  adds-text : (picture : List ℕ) → new.text ≡ two ++ cond (is_drawn remark wanted) (drawn board picture) [] →
+      Adds (level_text wanted n listed board places remark picture) (is_sound remark) old new
+  adds-text picture text =
+      let rows = cond (is_drawn remark wanted) (drawn board picture) [] in
+      let more = check_line n listed ++ remark_words board.cols places remark ++ rows in (
+        three_said old.text (check_line n listed) (remark_words board.cols places remark) rows one two new.text head said text
+            ∙ ap (λ (b : Bool). old.text ++ cond b [] more) (sym loud),
+        found,
+      )
+
+  -- without its board
+  pub tells-plain : is_drawn remark wanted ≡ false → new.text ≡ two → Tells wanted n listed board places remark old new
+  tells-plain hidden text = (
+    [],
+    λ shown. absurd (false≢true (sym hidden ∙ shown)),
+    adds-text [] (text ∙ sym (append-nil two) ∙ ap (λ (b : Bool). two ++ cond b (drawn board []) []) (sym hidden)),
+  )
+
+  -- with its board, if memory lasts
+  pub tells-drawn : {A E : Type 0} (result : Result A E) (judged : Result Board LevelFault) → is_drawn remark wanted ≡ true → judged ≡ listed.board →
+      OnOk result ((picture : List ℕ) × IsPicture judged board.cells picture × (new.text ≡ two ++ drawn board picture)) →
+      OnOk result (Tells wanted n listed board places remark old new)
+  tells-drawn (Err e) judged shown same picture = tt
+  tells-drawn (Ok a) judged shown same picture = (
+    picture.0,
+    λ _. subst (λ (j : Result Board LevelFault). IsPicture j board.cells picture.0) same picture.1,
+    adds-text picture.0 (picture.2 ∙ ap (λ (b : Bool). two ++ cond b (drawn board picture.0) []) (sym shown)),
+  )
+
+-- the rows of a source, and how their board is judged
+pub rows-of : (source : BoardSource) (rows : BoardRows) (found : Found) → IsSourceOf source found → source.rows ≡ Ok rows →
+    (lines : List (List ℕ)) × (first : ℕ) × AreRowsOf lines first found.board rows
+rows-of source rows found is e =
+    let has = is.1 in (has.0, has.1, subst (λ (r : Result BoardRows Excess). HasRowsFor has.0 has.1 found.board r) e has.2)
+
+pub judged-of : (source : BoardSource) (rows : BoardRows) (found : Found) → IsSourceOf source found → source.rows ≡ Ok rows →
+    IsJudged (board_in rows) source.entry.board
+judged-of source rows found is e =
+    let has = rows-of source rows found is e in subst (λ (b : Board). IsJudged b source.entry.board) has.2.board_is is.0
+
+-- what is found is told, if memory lasts
+pub found-told : {A E : Type 0} (result : Result A E) (board : Board) (remark : Remark) (Tale : Remark → Type 0) → IsTrueOf board remark →
+    OnOk result (Tale remark) → OnOk result ((one : Remark) × IsTrueOf board one × Tale one)
+found-told (Err e) board remark Tale true_of told_of = tt
+found-told (Ok a) board remark Tale true_of told_of = (remark, true_of, told_of)
 
 -- a wanted level is told, if memory lasts
 pub level-written : {A E : Type 0} (result : Result A E) (bytes : List ℕ) (wanted : Option ℕ) (number : ℕ) (listing : List Listed)
-    (entry : BoardEntry) (found : Found) (places : List RowPlace) (old new : Page) → number ≡ suc (length listing) →
-    is_wanted wanted number ≡ true → IsBoardEntry entry found → IsBoardAt bytes found.first_line found.board places →
-    OnOk result ((remark : Remark) × IsTrueOf found.board remark ×
-    Adds (level_text wanted number (listed_of entry) found.board places remark) (is_sound remark) old new) →
+    (entry : BoardEntry) (found : Found) (places : List RowPlace) (rows : BoardRows) (old new : Page) → number ≡ suc (length listing) →
+    is_wanted wanted number ≡ true → IsBoardEntry entry found → (here : IsBoardAt bytes found.first_line found.board places) →
+    AreRowsOf here.lines found.first_line found.board rows →
+    OnOk result ((remark : Remark) × IsTrueOf (board_in rows) remark ×
+    Tells wanted number (listed_of entry) (board_in rows) rows.places.items remark old new) →
     Explains bytes wanted listing old.text old.sound → OnOk result (Explains bytes wanted (listing ++ listed_of entry ∷ []) new.text new.sound)
-level-written (Err e) bytes wanted number listing entry found places old new count is listed at_line adds before = tt
-level-written (Ok a) bytes wanted number listing entry found places old new count is listed at_line adds before =
-    level-told bytes wanted number listing (listed_of entry) found.board places adds.0 old new count is
-    (subst (λ n. IsBoardAt bytes n found.board places) (sym listed.first_line) at_line) listed.board adds.1 adds.2 before
+level-written (Err e) bytes wanted number listing entry found places rows old new count is listed here has tells before = tt
+level-written (Ok a) bytes wanted number listing entry found places rows old new count is listed here has tells before =
+    let at_line = subst (λ n. IsBoardAt bytes n found.board places) (sym listed.first_line) here in
+    let at_board = subst (λ (b : Board). IsBoardAt bytes entry.first_line b places) has.board_is at_line in
+    level-told bytes wanted number listing (listed_of entry) (board_in rows) rows.places.items tells.0 old new count is
+    (subst (λ (ps : List RowPlace). IsBoardAt bytes entry.first_line (board_in rows) ps) (here.places_are ∙ has.places_are) at_board)
+    (subst (λ (b : Board). IsJudged b entry.board) has.board_is listed.board) tells.1 tells.2 before
 
--- what is found is true of the board of the source
-pub found-added : {A E : Type 0} (result : Result A E) (wanted : Option ℕ) (n : ℕ) (listed : Listed) (board read : Board)
-    (places rows : List RowPlace) (remark : Remark) (old new : Page) → board ≡ read → places ≡ rows → IsTrueOf read remark →
-    OnOk result (Adds (level_text wanted n listed read rows remark) (is_sound remark) old new) →
-    OnOk result ((x : Remark) × IsTrueOf board x × Adds (level_text wanted n listed board places x) (is_sound x) old new)
-found-added (Err e) wanted n listed board read places rows remark old new same there true_of adds = tt
-found-added (Ok a) wanted n listed board read places rows remark old new same there true_of adds = (
-  remark,
-  subst (λ (b : Board). IsTrueOf b remark) (sym same) true_of,
-  subst (λ (b : Board). Adds (level_text wanted n listed b places remark) (is_sound remark) old new) (sym same)
-      (subst (λ (ps : List RowPlace). Adds (level_text wanted n listed read ps remark) (is_sound remark) old new) (sym there) adds),
-)
+-- or it is too large
+pub level-large : {A E : Type 0} (result : Result A E) (bytes : List ℕ) (wanted : Option ℕ) (number : ℕ) (listing : List Listed)
+    (entry : BoardEntry) (found : Found) (places : List RowPlace) (excess : Excess) (old new : Page) → number ≡ suc (length listing) →
+    is_wanted wanted number ≡ true → IsBoardEntry entry found → (here : IsBoardAt bytes found.first_line found.board places) →
+    IsExcess here.lines found.first_line excess →
+    OnOk result ((new.text ≡ old.text ++ check_line number (listed_of entry) ++ excess_words excess) × (new.sound ≡ false)) →
+    Explains bytes wanted listing old.text old.sound → OnOk result (Explains bytes wanted (listing ++ listed_of entry ∷ []) new.text new.sound)
+level-large (Err e) bytes wanted number listing entry found places excess old new count is listed here past said before = tt
+level-large (Ok a) bytes wanted number listing entry found places excess old new count is listed here past said before =
+    let all = listing ++ listed_of entry ∷ [] in
+    let P : ℕ → Type 0 = λ n. (board : IsBoardAt bytes n found.board places) × IsExcess board.lines n excess in
+    let there = subst P (sym listed.first_line) (here, past) in
+    subst (λ s. Explains bytes wanted all new.text s) (sym said.1)
+    (subst (λ t. Explains bytes wanted all t false) (sym (said.0 ∙ ap (λ n. old.text ++ check_line n (listed_of entry) ++ excess_words excess) count))
+    (large (listed_of entry) found.board places excess before (ap (is_wanted wanted) (sym count) ∙ is) there.0 listed.board there.1))
 
 -- the board of a source, as it is given
 pub source-of : (bytes : List ℕ) (founds : List Found) (last : Collection) (source : BoardSource) →
     GivesSource bytes founds last (Some source) → (found : Found) × IsSourceOf source found
-source-of bytes founds last source next = (next.0, (next.1.board, (next.4.0, next.4.2)))
+source-of bytes founds last source next = (next.0, (next.1.board, (next.4.1.lines, next.0.first_line, next.4.2)))
 
 -- the gap and the level after it are written, if memory lasts
 pub page-next : {A E : Type 0} (result : Result A E) (bytes : List ℕ) (wanted : Option ℕ) (listing : List Listed) (new : Page) (gaps : Broken) →

@@ -1,9 +1,11 @@
 -- The reports of a search for the fewest pushes.
-use Rattle.std.proofs.Common.{◌≡◌, ℕ, ◌<◌, ◌≤◌, Bool, true, false, List, [], ◌∷◌, length, Option, Some, None, Result, Ok, Err, IfOk, inl, inr, refl, sym, subst, arith}
+use Rattle.std.proofs.Common.{◌≡◌, ◌⊎◌, ap, ◌∙◌, ℕ, ◌<◌, ◌≤◌, Bool, true, false, List, [], ◌∷◌, length, Option, Some, None, Result, Ok, Err, IfOk, inl, inr, refl, sym, subst, arith}
+use Rattle.std.proofs.lemmas.List.{append-nil}
 use Rattle.grid.specs.Board.{Board}
 use Rattle.grid.proofs.lemmas.Plays.{length-pushes}
 use Rattle.grid.specs.Lawful.{box_count}
 use Rattle.grid.specs.Plays.{dirs_of}
+use Rattle.grid.specs.declared.fault.LevelFault.{LevelFault}
 use Rattle.grid.specs.declared.limits.TheConstants.{MAX_BOXES}
 use Rattle.grid.specs.declared.moves.Letter.{Letter}
 use Rattle.lurd.proofs.lemmas.Solutions.{solution_of_solved}
@@ -25,6 +27,7 @@ use Rattle.shortest.specs.declared.outcome.MovesOutcome.{MovesOutcome}
 use Rattle.shortest.specs.declared.outcome.MovesOutcome.TheVariants as moves_outcome
 use Rattle.sokopar.specs.Best as best
 use Rattle.sokopar.specs.Collection.{IsFinding, IsFound, reported_of}
+use Rattle.sokopar.specs.Ends.{Seen}
 use Rattle.sokopar.specs.Listing.{Listed}
 use Rattle.sokopar.specs.Moves.{IsBestSolution, IsClaim}
 use Rattle.sokopar.specs.Proving as proving
@@ -35,9 +38,15 @@ use Rattle.sokopar.specs.declared.moves.MovesClaim.{MovesClaim}
 use Rattle.sokopar.specs.declared.moves.MovesClaim.TheVariants.{Counted, Fewest, Open}
 use Rattle.sokopar.specs.declared.outcome.BestOutcome.{BestOutcome}
 use Rattle.sokopar.specs.declared.outcome.BestOutcome.TheVariants as best_outcome
+use Rattle.sokopar.specs.declared.fault.RunFault.{RunFault}
+use Rattle.sokopar.specs.declared.fault.RunFault.TheVariants as run
+use Rattle.sokopar.specs.declared.judgement.Judgement.{Judgement}
+use Rattle.sokopar.specs.declared.judgement.Judgement.TheVariants.{BadText}
 use Rattle.sokopar.specs.declared.proving.SearchConfig.{SearchConfig}
 use Rattle.sokopar.specs.declared.reported.Reported.{Reported}
-use Rattle.sokopar.specs.Report.{Report, IsSearchOf, too_many_boxes, verdict_report, text_fault_report}
+use Rattle.sokopar.specs.Report.{Report, IsSearchOf, ReportsOnText, too_many_boxes}
+use Rattle.sokopar.specs.Runs.{ReadsIfSome, ReadsWhole, Stops}
+use Rattle.sokopar.proofs.Reading.{stops_after}
 
 -- ---- a level
 
@@ -135,24 +144,6 @@ reports_found table config n listed shown finding (Err e) same is made = tt
 
 -- ---- a solution
 
--- the report of a solution that solves the level
-abbrev pub IsOfSolved : Bool → ℕ → Board → ℕ → ℕ → Report → Type 0
-IsOfSolved wanted limit board pushes moves report = IsSearchOf (proving.IsProved wanted limit pushes moves) board report
-
--- a solution with the fewest pushes has its claim
-pub judged_optimal : {E : Type 0} (wanted : Bool) (limit : ℕ) (board : Board) (pushes moves : ℕ) (claim : MovesClaim) (r : Result Report E) →
-    NoneHasFewer board pushes → IsClaim wanted limit board pushes moves claim → IfOk r (λ report. report ≡ proving.optimal_report limit pushes moves claim) →
-    IfOk r (λ report. proving.IsProved wanted limit pushes moves board report)
-judged_optimal wanted limit board pushes moves claim (Ok report) none claimed is = proving.optimal claim none claimed is
-judged_optimal wanted limit board pushes moves claim (Err e) none claimed is = tt
-
--- a better one is the report
-pub judged_beaten : {E : Type 0} (wanted : Bool) (limit : ℕ) (board : Board) (pushes moves : ℕ) (other : BestSolution) (r : Result Report E) →
-    IsBestSolution wanted limit board other → proving.IsBetter other pushes moves → IfOk r (λ report. report ≡ proving.beaten_report limit pushes moves other) →
-    IfOk r (λ report. proving.IsProved wanted limit pushes moves board report)
-judged_beaten wanted limit board pushes moves other (Ok report) so better is = proving.beaten other so better is
-judged_beaten wanted limit board pushes moves other (Err e) so better is = tt
-
 -- no solution with as few pushes has fewer moves than one with as many
 not_fewer : (board : Board) (pushes least moves : ℕ) → NoneIsBetter board pushes least → moves ≤ least → NoneIsBetter board pushes moves
 not_fewer board pushes least moves none few ds ps solution = elim (none ds ps solution) [
@@ -191,43 +182,6 @@ solved_long board letters v pushes moves e is =
 pub fewest_at_bound : (limit : ℕ) (board : Board) (bound pushes : ℕ) → best.IsUndecided limit board bound → pushes ≤ bound → NoneHasFewer board pushes
 fewest_at_bound limit board bound pushes open_at few ds ps solution = let least = open_at.0 ds ps solution in omega (arith, least, few)
 
--- a solution with fewer pushes is the report if the search ended at its limit
-pub judged_found : {E : Type 0} (wanted : Bool) (limit : ℕ) (board : Board) (pushes moves : ℕ) (letters : List Letter) (fewer bound : ℕ) (r : Result Report E) →
-    IsVerdict board letters (Solved fewer (length letters)) → fewer < pushes → best.IsUndecided limit board bound → bound < fewer →
-    IfOk r (λ report. report ≡ proving.found_report limit bound pushes moves fewer letters) →
-    IfOk r (λ report. proving.IsProved wanted limit pushes moves board report)
-judged_found wanted limit board pushes moves letters fewer bound (Ok report) solved less undecided most is =
-    proving.found letters fewer bound solved less undecided most is
-judged_found wanted limit board pushes moves letters fewer bound (Err e) solved less undecided most is = tt
-
--- a solution with fewer moves is the report if the search for the fewest moves ended at its limit
-pub judged_shorter : {E : Type 0} (wanted : Bool) (limit : ℕ) (board : Board) (pushes moves : ℕ) (letters : List Letter) (r : Result Report E) →
-    IsVerdict board letters (Solved pushes (length letters)) → NoneHasFewer board pushes → length letters < moves →
-    IsClaim wanted limit board pushes moves Open → IfOk r (λ report. report ≡ proving.shorter_report limit pushes moves letters) →
-    IfOk r (λ report. proving.IsProved wanted limit pushes moves board report)
-judged_shorter wanted limit board pushes moves letters (Ok report) solved none less claimed is = proving.shorter letters (solved, none) less claimed is
-judged_shorter wanted limit board pushes moves letters (Err e) solved none less claimed is = tt
-
--- without a better one the report is the bound
-pub judged_open : {E : Type 0} (wanted : Bool) (limit : ℕ) (board : Board) (pushes moves bound : ℕ) (r : Result Report E) →
-    best.IsUndecided limit board bound → bound < pushes → IfOk r (λ report. report ≡ proving.undecided_report limit bound pushes moves) →
-    IfOk r (λ report. proving.IsProved wanted limit pushes moves board report)
-judged_open wanted limit board pushes moves bound (Ok report) undecided less is = proving.undecided bound undecided less is
-judged_open wanted limit board pushes moves bound (Err e) undecided less is = tt
-
-pub judged_many : {E : Type 0} (wanted : Bool) (limit : ℕ) (board : Board) (pushes moves : ℕ) (r : Result Report E) → MAX_BOXES < box_count board →
-    IfOk r (λ report. report ≡ too_many_boxes) → IfOk r (λ report. IsOfSolved wanted limit board pushes moves report)
-judged_many wanted limit board pushes moves (Ok report) many is = inl (many, is)
-judged_many wanted limit board pushes moves (Err e) many is = tt
-
-pub judged_few : {E : Type 0} (wanted : Bool) (limit : ℕ) (board : Board) (pushes moves : ℕ) (r : Result Report E) → box_count board ≤ MAX_BOXES →
-    IfOk r (λ report. proving.IsProved wanted limit pushes moves board report) → IfOk r (λ report. IsOfSolved wanted limit board pushes moves report)
-judged_few wanted limit board pushes moves (Ok report) few is = inr (few, is)
-judged_few wanted limit board pushes moves (Err e) few is = tt
-
--- the report of a solution is what it is judged to be, if the boxes are not too many
-pub ruleset of_judged = (judged_few, judged_many)
-
 -- ---- letters and texts
 
 -- letters have as many directions
@@ -246,48 +200,73 @@ few_pushes board letters v pushes moves e is few =
     let count = writes.pushes_are in
     omega (arith, count, less, long, few)
 
--- the report of letters
-abbrev pub IsOfMoves : Bool → ℕ → Board → List Letter → Report → Type 0
-IsOfMoves wanted limit board letters report = (v : Verdict) × IsVerdict board letters v × proving.IsProvedBy wanted limit board v report
+-- the letters solve the level
+pub solves : (board : Board) (letters : List Letter) (v : Verdict) (pushes moves : ℕ) → v ≡ Solved pushes moves → IsVerdict board letters v →
+    IsVerdict board letters (Solved pushes moves)
+solves board letters v pushes moves e is = subst (λ (u : Verdict). IsVerdict board letters u) e is
 
-pub of_solved : {E : Type 0} (wanted : Bool) (limit : ℕ) (board : Board) (letters : List Letter) (v : Verdict) (pushes moves : ℕ) (r : Result Report E) →
-    v ≡ Solved pushes moves → IsVerdict board letters v → IfOk r (λ report. IsOfSolved wanted limit board pushes moves report) →
-    IfOk r (λ report. IsOfMoves wanted limit board letters report)
-of_solved wanted limit board letters v pushes moves (Ok report) e is has = (Solved pushes moves, subst (λ (u : Verdict). IsVerdict board letters u) e is, has)
-of_solved wanted limit board letters v pushes moves (Err x) e is has = tt
+-- a verdict says that they do not
+pub fails_unsolved : (v : Verdict) (pushes moves : ℕ) → v ≡ Unsolved pushes moves → proving.IsFailure v
+fails_unsolved v pushes moves e = subst proving.IsFailure (sym e) tt
 
-pub of_unsolved : {E : Type 0} (wanted : Bool) (limit : ℕ) (board : Board) (letters : List Letter) (v : Verdict) (pushes moves : ℕ) (r : Result Report E) →
-    v ≡ Unsolved pushes moves → IsVerdict board letters v → IfOk r (λ report. report ≡ verdict_report v) →
-    IfOk r (λ report. IsOfMoves wanted limit board letters report)
-of_unsolved wanted limit board letters v pushes moves (Ok report) e is has =
-    (Unsolved pushes moves, subst (λ (u : Verdict). IsVerdict board letters u) e is, subst (λ (u : Verdict). report ≡ verdict_report u) e has)
-of_unsolved wanted limit board letters v pushes moves (Err x) e is has = tt
+pub fails_blocked : (v : Verdict) (place : ℕ) → v ≡ Blocked place → proving.IsFailure v
+fails_blocked v place e = subst proving.IsFailure (sym e) tt
 
-pub of_blocked : {E : Type 0} (wanted : Bool) (limit : ℕ) (board : Board) (letters : List Letter) (v : Verdict) (place : ℕ) (r : Result Report E) →
-    v ≡ Blocked place → IsVerdict board letters v → IfOk r (λ report. report ≡ verdict_report v) →
-    IfOk r (λ report. IsOfMoves wanted limit board letters report)
-of_blocked wanted limit board letters v place (Ok report) e is has =
-    (Blocked place, subst (λ (u : Verdict). IsVerdict board letters u) e is, subst (λ (u : Verdict). report ≡ verdict_report u) e has)
-of_blocked wanted limit board letters v place (Err x) e is has = tt
+pub fails_wrong_case : (v : Verdict) (place : ℕ) → v ≡ WrongCase place → proving.IsFailure v
+fails_wrong_case v place e = subst proving.IsFailure (sym e) tt
 
-pub of_wrong_case : {E : Type 0} (wanted : Bool) (limit : ℕ) (board : Board) (letters : List Letter) (v : Verdict) (place : ℕ) (r : Result Report E) →
-    v ≡ WrongCase place → IsVerdict board letters v → IfOk r (λ report. report ≡ verdict_report v) →
-    IfOk r (λ report. IsOfMoves wanted limit board letters report)
-of_wrong_case wanted limit board letters v place (Ok report) e is has =
-    (WrongCase place, subst (λ (u : Verdict). IsVerdict board letters u) e is, subst (λ (u : Verdict). report ≡ verdict_report u) e has)
-of_wrong_case wanted limit board letters v place (Err x) e is has = tt
+-- what is judged of letters depends on their verdict
+pub ruleset of_verdict = (few_pushes, solves, fails_unsolved, fails_blocked, fails_wrong_case)
 
--- the report of letters depends on their verdict
-pub ruleset of_verdict = (few_pushes, of_solved, of_unsolved, of_blocked, of_wrong_case)
+-- what is judged of a text
+pub of_text : {E : Type 0} (wanted : Bool) (limit : ℕ) (board : Board) (solution : List ℕ) (letters : List Letter) (r : Result Judgement E) →
+    IsText solution letters → IfOk r (λ judgement. proving.IsJudged wanted limit board letters judgement) →
+    IfOk r (λ judgement. proving.IsJudgement wanted limit board solution judgement)
+of_text wanted limit board solution letters (Ok judgement) text is = inl (letters, text, is)
+of_text wanted limit board solution letters (Err e) text is = tt
 
--- the report of a text
-pub of_text : {E : Type 0} (wanted : Bool) (limit : ℕ) (board : Board) (solution : List ℕ) (letters : List Letter) (r : Result Report E) →
-    IsText solution letters → IfOk r (λ report. IsOfMoves wanted limit board letters report) →
-    IfOk r (λ report. proving.IsProofOf wanted limit board solution report)
-of_text wanted limit board solution letters (Ok report) text has = inl (letters, has.0, text, has.1, has.2)
-of_text wanted limit board solution letters (Err e) text has = tt
-
-pub of_fault : {E : Type 0} (wanted : Bool) (limit : ℕ) (board : Board) (solution : List ℕ) (fault : LurdFault) (r : Result Report E) →
-    HasTextFault solution fault → IfOk r (λ report. report ≡ text_fault_report fault) → IfOk r (λ report. proving.IsProofOf wanted limit board solution report)
-of_fault wanted limit board solution fault (Ok report) has is = inr (fault, has, is)
+pub of_fault : {E : Type 0} (wanted : Bool) (limit : ℕ) (board : Board) (solution : List ℕ) (fault : LurdFault) (r : Result Judgement E) →
+    HasTextFault solution fault → IfOk r (λ judgement. judgement ≡ BadText fault) →
+    IfOk r (λ judgement. proving.IsJudgement wanted limit board solution judgement)
+of_fault wanted limit board solution fault (Ok judgement) has is = inr (fault, has, is)
 of_fault wanted limit board solution fault (Err e) has is = tt
+
+-- ---- the solution of a level
+
+-- what is judged of the text that was read
+pub judged_text : (wanted : Bool) (limit : ℕ) (old new : Seen) (level : Result Board LevelFault) (board : Board) (text : List ℕ) (judgement : Judgement) →
+    level ≡ Ok board → ReadsWhole old new text → proving.IsJudgement wanted limit board text judgement →
+    (read : Option (List ℕ)) × ReadsIfSome old new read × proving.IsJudgementOn wanted limit level read judgement
+judged_text wanted limit old new level board text judgement is reads has =
+    (Some text, reads, subst (λ l. proving.IsJudgementOn wanted limit l (Some text) judgement) (sym is) (text, refl, has))
+
+-- the report of what is judged is that on the chosen level
+pub reports_judged : (wanted : Bool) (limit n : ℕ) (old new : Seen) (chosen : Option (Result Board LevelFault)) (level : Result Board LevelFault)
+    (judgement : Judgement) (report : Report) → chosen ≡ Some level →
+    (text : Option (List ℕ)) × ReadsIfSome old new text × proving.IsJudgementOn wanted limit level text judgement →
+    report ≡ proving.judgement_report limit judgement →
+    (text : Option (List ℕ)) × ReadsIfSome old new text × ReportsOnText (proving.IsProofOf wanted limit) n chosen text report
+reports_judged wanted limit n old new chosen level judgement report is judged made =
+    (judged.0, judged.1, subst (λ at. ReportsOnText (proving.IsProofOf wanted limit) n at judged.0 report) (sym is) (on level judged.2))
+  where
+    on : (level : Result Board LevelFault) → proving.IsJudgementOn wanted limit level judged.0 judgement →
+        ReportsOnText (proving.IsProofOf wanted limit) n (Some level) judged.0 report
+    on (Ok board) (text, read, has) = (text, read, (judgement, has, made))
+    on (Err fault) (none, faulty) =
+        (none, made ∙ ap (proving.judgement_report limit) faulty ∙ ap (λ (text : List ℕ). record { text = text; status = 1 }) (append-nil _))
+
+-- reading the solution stopped
+pub stops_chosen : (old new : Seen) (chosen : Option (Result Board LevelFault)) (level : Result Board LevelFault) (fault : RunFault) → chosen ≡ Some level →
+    (board : Board) × (level ≡ Ok board) × Stops old new fault →
+    ((fault ≡ run.OutOfMemory) × (new ≡ old)) ⊎ ((board : Board) × (chosen ≡ Some (Ok board)) × Stops old new fault)
+stops_chosen old new chosen level fault is (board, lawful, stops) = inr (board, is ∙ ap Some lawful, stops)
+
+-- memory was refused once the solution was judged
+pub stops_judged : (wanted : Bool) (limit : ℕ) (old new : Seen) (chosen : Option (Result Board LevelFault)) (level : Result Board LevelFault)
+    (judgement : Judgement) (fault : RunFault) → fault ≡ run.OutOfMemory → chosen ≡ Some level →
+    (text : Option (List ℕ)) × ReadsIfSome old new text × proving.IsJudgementOn wanted limit level text judgement →
+    ((fault ≡ run.OutOfMemory) × (new ≡ old)) ⊎ ((board : Board) × (chosen ≡ Some (Ok board)) × Stops old new fault)
+stops_judged wanted limit old new chosen (Ok board) judgement fault memory is (text, reads, (solution, some, has)) =
+    inr (board, is, subst (Stops old new) (sym memory) (stops_after old new solution (subst (ReadsIfSome old new) some reads)))
+stops_judged wanted limit old new chosen (Err named) judgement fault memory is (text, reads, (none, faulty)) =
+    inl (memory, subst (ReadsIfSome old new) none reads)

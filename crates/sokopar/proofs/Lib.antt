@@ -7,6 +7,7 @@ mod Judging
 mod Listings
 mod Maps
 mod OneReport
+mod Pictures
 mod Piping
 mod Reading
 mod Remarks

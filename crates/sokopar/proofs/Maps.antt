@@ -9,20 +9,29 @@ use Rattle.xsb.specs.Boards.{cut_end, before_rest}
 use Rattle.xsb.specs.Written.{rows_from}
 use Rattle.sokopar.specs.DeadMap.{IsMark, AreMarks, marked_row}
 
+-- the first squares have their bytes
+abbrev pub HaveBytes : (ℕ → ℕ → Type 0) → List ℕ → Type 0
+HaveBytes IsByte bytes = (q : ℕ) → q < length bytes → IsByte q (slice_index bytes q)
+
+-- the list grows by the byte of the next square
+pub bytes_grow : (IsByte : ℕ → ℕ → Type 0) (bytes : List ℕ) (byte : ℕ) → HaveBytes IsByte bytes → IsByte (length bytes) byte →
+    HaveBytes IsByte (bytes ++ byte ∷ [])
+bytes_grow IsByte bytes byte have next q below = by_place (cases_lt q (length bytes)) where
+  by_place : (q < length bytes) ⊎ (length bytes ≤ q) → IsByte q (slice_index (bytes ++ byte ∷ []) q)
+  by_place (inl before) = let e = get_or_append_left bytes (byte ∷ []) 0 q before in rw e (have q before)
+  by_place (inr after) =
+      let here : q ≡ length bytes = omega (arith, length-append bytes (byte ∷ [])) in
+      let P : ℕ → Type 0 = λ p. IsByte p (slice_index (bytes ++ byte ∷ []) p) in
+      let e = get_or-append_seam bytes byte [] 0 in
+      subst P (sym here) (rw e next)
+
 -- the first squares have their marks
 abbrev pub HaveMarks : Board → List ℕ → Type 0
-HaveMarks board marks = (q : ℕ) → q < length marks → IsMark board q (slice_index marks q)
+HaveMarks board marks = HaveBytes (IsMark board) marks
 
 -- the list of marks grows by the mark of the next square
 pub marks_grow : (board : Board) (marks : List ℕ) (mark : ℕ) → HaveMarks board marks → IsMark board (length marks) mark → HaveMarks board (marks ++ mark ∷ [])
-marks_grow board marks mark have next q below = by_place (cases_lt q (length marks)) where
-  by_place : (q < length marks) ⊎ (length marks ≤ q) → IsMark board q (slice_index (marks ++ mark ∷ []) q)
-  by_place (inl before) = let e = get_or_append_left marks (mark ∷ []) 0 q before in rw e (have q before)
-  by_place (inr after) =
-      let here : q ≡ length marks = omega (arith, length-append marks (mark ∷ [])) in
-      let P : ℕ → Type 0 = λ p. IsMark board p (slice_index (marks ++ mark ∷ []) p) in
-      let e = get_or-append_seam marks mark [] 0 in
-      subst P (sym here) (rw e next)
+marks_grow board marks mark have next = bytes_grow (IsMark board) marks mark have next
 
 -- all squares have their marks
 pub marks_all : (board : Board) (marks : List ℕ) → length marks ≡ length board.cells → HaveMarks board marks → AreMarks board marks

@@ -1,5 +1,5 @@
 -- What finding solutions with the fewest pushes of the levels of a collection writes: a line for each level.
-use Rattle.std.specs.Prelude.{◌≡◌, ℕ, suc, ◌≤◌, if◌then◌else◌, Bool, true, false, List, [], ◌++◌, length}
+use Rattle.std.specs.Prelude.{◌≡◌, ℕ, suc, ◌≤◌, Bool, true, false, List, [], ◌++◌, length}
 use Rattle.std.specs.Prelude.{Result, Ok, Err, Option, Some, None, codes, decimal}
 use Rattle.grid.specs.Board.{Board}
 use Rattle.grid.specs.Lawful.{box_count}
@@ -11,11 +11,12 @@ use Rattle.sokopar.specs.Best.{Finds, outcome_words}
 use Rattle.sokopar.specs.Levels.{BeginsReportOnLevels, IsReportOnLevels}
 use Rattle.sokopar.specs.Levels.{count_of, is_optimal, is_undecided, is_unjudged, is_unsolved}
 use Rattle.sokopar.specs.Listing.{Listed}
-use Rattle.sokopar.specs.Moves.{is_open}
+use Rattle.sokopar.specs.Moves.{claim_kind, claim_verdict}
 use Rattle.sokopar.specs.Report.{fault_words, line}
-use Rattle.sokopar.specs.Table.{Row, row_line, table_head}
+use Rattle.sokopar.specs.Table.{Row, boxes_of, head_of, row_line}
 use Rattle.sokopar.specs.declared.finding.Finding.{Finding}
 use Rattle.sokopar.specs.declared.finding.Finding.TheVariants.{Searched, TooManyBoxes, OutOfMemory, Faulty}
+use Rattle.sokopar.specs.declared.judgement.Counts.{Counts}
 use Rattle.sokopar.specs.declared.outcome.BestOutcome.{BestOutcome}
 use Rattle.sokopar.specs.declared.outcome.BestOutcome.TheVariants.{Least, NoneWithin, Unsolvable, Limit}
 use Rattle.sokopar.specs.declared.proving.CollectionRequest.{CollectionRequest}
@@ -53,7 +54,7 @@ finding_words cap limit (Faulty fault) = fault_words fault
 
 -- how the totals count a finding
 abbrev pub kind_of : Finding → Kind
-kind_of (Searched (Least best)) = if is_open best.claim then kind.Open else kind.Optimal
+kind_of (Searched (Least best)) = claim_kind best.claim
 kind_of (Searched NoneWithin) = kind.Unsolved
 kind_of (Searched Unsolvable) = kind.Unsolved
 kind_of (Searched (Limit bound)) = kind.Open
@@ -62,24 +63,19 @@ kind_of (OutOfMemory bound) = kind.OutOfMemory
 kind_of (Faulty fault) = kind.NotJudged
 
 -- the verdict of a finding in a table
-abbrev pub verdict_words : Finding → List ℕ
-verdict_words (Searched (Least best)) = if is_open best.claim then codes "optimal pushes" else codes "optimal"
-verdict_words (Searched NoneWithin) = codes "none within"
-verdict_words (Searched Unsolvable) = codes "unsolvable"
-verdict_words (Searched (Limit bound)) = codes "open"
-verdict_words TooManyBoxes = codes "too many boxes"
-verdict_words (OutOfMemory bound) = codes "out of memory"
-verdict_words (Faulty fault) = fault_words fault
+abbrev pub finding_verdict : Finding → List ℕ
+finding_verdict (Searched (Least best)) = claim_verdict best.claim
+finding_verdict (Searched NoneWithin) = codes "none within"
+finding_verdict (Searched Unsolvable) = codes "unsolvable"
+finding_verdict (Searched (Limit bound)) = codes "open"
+finding_verdict TooManyBoxes = codes "too many boxes"
+finding_verdict (OutOfMemory bound) = codes "out of memory"
+finding_verdict (Faulty fault) = fault_words fault
 
--- the pushes of the solution of a finding, if it has one
-abbrev pub pushes_of : Finding → Option ℕ
-pushes_of (Searched (Least best)) = Some best.pushes
-pushes_of finding = None
-
--- its moves
-abbrev pub moves_of : Finding → Option ℕ
-moves_of (Searched (Least best)) = Some (length best.moves)
-moves_of finding = None
+-- the numbers of pushes and moves of the solution of a finding, if it has one
+abbrev pub found_of : Finding → Option Counts
+found_of (Searched (Least best)) = Some (record { pushes = best.pushes; moves = length best.moves })
+found_of finding = None
 
 -- the bound of a search that ended at its limit or ran out of memory
 abbrev pub bound_of : Finding → Option ℕ
@@ -92,22 +88,15 @@ abbrev pub letters_of : Finding → List ℕ
 letters_of (Searched (Least best)) = bytes_of best.moves
 letters_of finding = []
 
--- how many boxes a lawful level has
-abbrev pub boxes_of : Result Board LevelFault → Option ℕ
-boxes_of (Ok board) = Some (box_count board)
-boxes_of (Err fault) = None
-
 -- the columns of level n with a finding
 abbrev pub row_of : ℕ → Listed → Finding → Row
 row_of n listed finding = record {
   level = n;
   first_line = listed.first_line;
   boxes = boxes_of listed.board;
-  verdict = verdict_words finding;
-  given_pushes = None;
-  given_moves = None;
-  pushes = pushes_of finding;
-  moves = moves_of finding;
+  verdict = finding_verdict finding;
+  given = None;
+  found = found_of finding;
   at_least = bound_of finding;
   name = listed.name;
   solution = letters_of finding;
@@ -141,11 +130,6 @@ abbrev pub totals_words : Option ℕ → ℕ → ℕ → ℕ → ℕ → ℕ →
 totals_words cap levels optimal unsolved undecided unjudged =
     decimal levels ++ codes " levels, " ++ decimal optimal ++ codes " optimal, " ++ decimal unsolved ++ codes " " ++
     unsolved_words cap ++ codes ", " ++ decimal undecided ++ codes " open, " ++ decimal unjudged ++ codes " not judged"
-
--- the first line: a table has the names of its columns
-abbrev pub head_of : Bool → List ℕ
-head_of true = table_head
-head_of false = []
 
 -- the last line: the totals of some levels, except in a table
 abbrev pub totals_line : Bool → Option ℕ → List Reported → List ℕ

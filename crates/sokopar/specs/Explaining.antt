@@ -1,7 +1,11 @@
 -- What explaining the levels of a collection writes: where and why each is faulty or cannot be solved.
-use Rattle.std.specs.Prelude.{◌≡◌, ℕ, zero, suc, ◌+◌, ◌-◌, ◌/◌, ◌%◌, ◌<◌, ◌⊎◌, Bool, true, false, cond, ◌&&◌, ◌==◌, nat_lt}
-use Rattle.std.specs.Prelude.{List, [], ◌∷◌, ◌++◌, length, take, map, flat_map, slice_get, Option, Some, None, is_some, is_none, codes, decimal}
+use Rattle.std.specs.Prelude.{◌≡◌, ℕ, zero, suc, ◌+◌, ◌-◌, ◌/◌, ◌%◌, ◌<◌, Bool, true, false, cond, ◌&&◌, ◌==◌, nat_lt}
+use Rattle.std.specs.Prelude.{List, [], ◌∷◌, ◌++◌, length, take, map, flat_map, get_or, slice_get, slice_index, codes, decimal}
+use Rattle.std.specs.Prelude.{Option, Some, None, is_some, is_none, Result, Ok, Err, IsTrue, ◌↔◌}
+use Rattle.grid.specs.declared.cell.Cell.{Cell}
+use Rattle.grid.specs.declared.cell.Cell.TheVariants.{Wall, Floor, Box}
 use Rattle.grid.specs.declared.dir.Dir.{Dir}
+use Rattle.grid.specs.declared.fault.LevelFault.{LevelFault}
 use Rattle.grid.specs.declared.limits.TheConstants.{MAX_ROWS, MAX_COLS}
 use Rattle.grid.specs.Board.{Board, box_cell, goal_cell, player_cell, next, start}
 use Rattle.grid.specs.Lawful.{InRoom, IsLevel, row_count}
@@ -9,19 +13,21 @@ use Rattle.grid.specs.Squares.{Squares, contains, places_from}
 use Rattle.doom.specs.Deadlocks.{IsDead, IsFrozen, Undoomed}
 use Rattle.xsb.specs.Breaks.{IsBroken}
 use Rattle.xsb.specs.Collection.{IsJudged}
-use Rattle.xsb.specs.Places.{IsBoardAt}
+use Rattle.xsb.specs.Places.{IsBoardAt, IsExcess}
 use Rattle.xsb.specs.Rows.{cell_byte}
 use Rattle.xsb.specs.Written.{rows_from}
 use Rattle.xsb.specs.declared.breaks.BrokenRow.{BrokenRow}
 use Rattle.xsb.specs.declared.breaks.Cause.{Cause}
 use Rattle.xsb.specs.declared.breaks.Cause.TheVariants.{Byte, ZeroCount, LongCount, LooseCount}
+use Rattle.xsb.specs.declared.places.Excess.{Excess}
+use Rattle.xsb.specs.declared.places.Excess.TheVariants.{Rows, Columns}
 use Rattle.xsb.specs.declared.places.RowPlace.{RowPlace}
 use Rattle.sokopar.specs.Best.{IsUnsolvable}
-use Rattle.sokopar.specs.DeadMap.{marked_row}
+use Rattle.sokopar.specs.DeadMap.{IsMark, marked_row}
 use Rattle.sokopar.specs.Listing.{Listed, IsLevelListing}
 use Rattle.sokopar.specs.Report.{Report, check_line, good_count, line, no_level}
 use Rattle.sokopar.specs.declared.remark.Remark.{Remark}
-use Rattle.sokopar.specs.declared.remark.Remark.TheVariants.{TooLarge, Players, Unequal, Exit, DeadBoxes, Frozen, Sound}
+use Rattle.sokopar.specs.declared.remark.Remark.TheVariants.{Players, Unequal, Exit, DeadBoxes, Frozen, Sound}
 use Rattle.sokopar.specs.declared.sentences.TheConstants.{MOST_PLACES}
 
 -- a line and a column of the file, which counts the bytes of a plain line; else that of a row of the board, spelled out
@@ -50,9 +56,14 @@ unfoldable pub sentences : List ℕ → ℕ → List RowPlace → Squares → Li
 sentences words cols places squares =
     flat_map (sentence_at words cols places) (take MOST_PLACES squares) ++ more_words (length squares - MOST_PLACES)
 
+-- where a board is too large
+abbrev pub excess_words : Excess → List ℕ
+excess_words (Rows line) = sentence (codes "row " ++ decimal (MAX_ROWS + 1) ++ codes " is at line " ++ decimal line)
+excess_words (Columns line) = sentence
+    (codes "line " ++ decimal line ++ codes " has a row with more than " ++ decimal MAX_COLS ++ codes " columns")
+
 -- the sentences of a remark
 abbrev pub remark_words : ℕ → List RowPlace → Remark → List ℕ
-remark_words cols places TooLarge = sentence (codes "it has more rows or columns than a level may have")
 remark_words cols places (Players squares) = sentences (codes "a player is") cols places squares.items
 remark_words cols places (Unequal boxes goals) =
     sentences (codes "a box is") cols places boxes.items ++ sentences (codes "a goal is") cols places goals.items
@@ -71,7 +82,6 @@ IsExit board q = InRoom board q × ((d : Dir) × (next board q d ≡ length boar
 -- the remark is true of a board: all its players, or all its boxes and goals; or a square at the grid's edge that steps
 -- lead to, boxes ignored; or boxes on dead squares, or boxes some of which are frozen, so that no play solves the level
 abbrev pub IsTrueOf : Board → Remark → Type 0
-IsTrueOf board TooLarge = (MAX_ROWS < row_count board) ⊎ (MAX_COLS < board.cols)
 IsTrueOf board (Players squares) = squares.items ≡ places_from player_cell 0 board.cells
 IsTrueOf board (Unequal boxes goals) =
     (boxes.items ≡ places_from box_cell 0 board.cells) × (goals.items ≡ places_from goal_cell 0 board.cells)
@@ -92,19 +102,41 @@ is_sound remark = false
 abbrev pub is_quiet : Remark → Option ℕ → Bool
 is_quiet remark wanted = is_sound remark && is_none wanted
 
--- the board is shown: it is not too large, and the level is wanted by its number
+-- the board is shown: the player gets out, or the level is wanted by its number
 abbrev pub is_drawn : Remark → Option ℕ → Bool
-is_drawn TooLarge wanted = false
+is_drawn (Exit q) wanted = true
 is_drawn remark wanted = is_some wanted
 
--- the board as it was read
-abbrev pub drawn : Board → List ℕ
-drawn board = flat_map marked_row (rows_from (row_count board) board.cols (map cell_byte board.cells))
+-- the byte that shows a cell of a level: floor has the mark of its square by `dead`, a box on a dead square is `!`, all
+-- others are as they were read
+abbrev pub shown_byte : Cell → ℕ → Bool → ℕ
+shown_byte Floor mark dead = mark
+shown_byte Box mark dead = cond dead 33 36
+shown_byte cell mark dead = cell_byte cell
 
--- what is written of level n: `check`'s line, the remark, and the board
-abbrev pub level_text : Option ℕ → ℕ → Listed → Board → List RowPlace → Remark → List ℕ
-level_text wanted n listed board places remark = cond (is_quiet remark wanted) []
-    (check_line n listed ++ remark_words board.cols places remark ++ cond (is_drawn remark wanted) (drawn board) [])
+-- the byte shows the cell on square q of a level
+abbrev pub IsShown : Board → ℕ → Cell → ℕ → Type 0
+IsShown board q cell b = (mark : ℕ) × IsMark board q mark × (dead : Bool) × (IsTrue dead ↔ IsDead board q) ×
+    (b ≡ shown_byte cell mark dead)
+
+-- the bytes show the cells of a level, in order
+pub record AreShown (board : Board) (bytes : List ℕ) : Type 0 where
+  pub count : length bytes ≡ length board.cells
+  pub each : (q : ℕ) → q < length board.cells → IsShown board q (get_or board.cells q Wall) (slice_index bytes q)
+
+-- the bytes of the cells of a board: they show those of a level; those of a faulty board are as they were read
+abbrev pub IsPicture : Result Board LevelFault → List Cell → List ℕ → Type 0
+IsPicture (Ok board) cells bytes = AreShown board bytes
+IsPicture (Err fault) cells bytes = bytes ≡ map cell_byte cells
+
+-- the rows that the bytes of a board's cells make
+abbrev pub drawn : Board → List ℕ → List ℕ
+drawn board bytes = flat_map marked_row (rows_from (row_count board) board.cols bytes)
+
+-- what is written of level n: `check`'s line, the remark, and the board, given the bytes of its cells
+abbrev pub level_text : Option ℕ → ℕ → Listed → Board → List RowPlace → Remark → List ℕ → List ℕ
+level_text wanted n listed board places remark picture = cond (is_quiet remark wanted) [] (check_line n listed ++
+    remark_words board.cols places remark ++ cond (is_drawn remark wanted) (drawn board picture) [])
 
 -- a byte in words
 abbrev pub byte_words : ℕ → List ℕ
@@ -117,15 +149,10 @@ cause_words ZeroCount = codes " begins a count of 0"
 cause_words LongCount = codes " begins a count of too many digits"
 cause_words LooseCount = codes " begins a count that no cell follows"
 
--- that nothing else parts two boards
-abbrev pub parts_words : Bool → List ℕ
-parts_words true = codes "; no other line is between two boards"
-parts_words false = []
-
--- the line of a row that is broken
+-- the line of a row that is broken, and that nothing else parts two boards
 unfoldable pub broken_line : BrokenRow → List ℕ
 broken_line row = line (codes "line " ++ decimal row.line ++ codes " has a wall and is no row: byte " ++ decimal row.byte ++
-    cause_words row.cause ++ parts_words row.parts)
+    cause_words row.cause ++ cond row.parts (codes "; no other line is between two boards") [])
 
 -- level n is wanted: all levels are, or one by its number
 abbrev pub is_wanted : Option ℕ → ℕ → Bool
@@ -142,12 +169,20 @@ pub data Explains (bytes : List ℕ) (wanted : Option ℕ) : List Listed → Lis
   other : {listing : List Listed} {text : List ℕ} {sound : Bool} (listed : Listed) →
       Explains bytes wanted listing text sound → is_wanted wanted (suc (length listing)) ≡ false →
       Explains bytes wanted (listing ++ listed ∷ []) text sound
+  large : {listing : List Listed} {text : List ℕ} {sound : Bool} (listed : Listed) (board : Board)
+      (places : List RowPlace) (excess : Excess) →
+      Explains bytes wanted listing text sound → is_wanted wanted (suc (length listing)) ≡ true →
+      (here : IsBoardAt bytes listed.first_line board places) → IsJudged board listed.board →
+      IsExcess here.lines listed.first_line excess →
+      Explains bytes wanted (listing ++ listed ∷ [])
+      (text ++ check_line (suc (length listing)) listed ++ excess_words excess) false
   told : {listing : List Listed} {text : List ℕ} {sound : Bool} (listed : Listed) (board : Board)
-      (places : List RowPlace) (remark : Remark) →
+      (places : List RowPlace) (remark : Remark) (picture : List ℕ) →
       Explains bytes wanted listing text sound → is_wanted wanted (suc (length listing)) ≡ true →
       IsBoardAt bytes listed.first_line board places → IsJudged board listed.board → IsTrueOf board remark →
+      (is_drawn remark wanted ≡ true → IsPicture listed.board board.cells picture) →
       Explains bytes wanted (listing ++ listed ∷ [])
-      (text ++ level_text wanted (suc (length listing)) listed board places remark) (sound && is_sound remark)
+      (text ++ level_text wanted (suc (length listing)) listed board places remark picture) (sound && is_sound remark)
 
 -- the report: of all levels with `check`'s totals; or of the wanted one, if there is such a level; good if nothing was
 -- found

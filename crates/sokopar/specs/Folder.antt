@@ -1,51 +1,102 @@
 -- What proving the solutions of a folder writes: a line for each level of a collection of which the folder has one.
-use Rattle.std.specs.Prelude.{◌≡◌, ℕ, ◌-◌, ◌==◌, nat_eq, if◌then◌else◌, List, [], ◌∷◌, ◌++◌, length, take, flat_map}
-use Rattle.std.specs.Prelude.{codes, decimal}
+use Rattle.std.specs.Prelude.{◌≡◌, ℕ, Bool, true, false, List, [], ◌++◌, length, codes, decimal}
 use Rattle.std.specs.Prelude.{Option, Some, None, Result, Ok, Err}
-use Rattle.std.specs.List.{starts_with}
+use Rattle.grid.specs.Board.{Board}
+use Rattle.grid.specs.declared.fault.LevelFault.{LevelFault}
+use Rattle.lurd.specs.declared.verdict.Verdict.{Verdict}
+use Rattle.lurd.specs.declared.verdict.Verdict.TheVariants.{Unsolved}
 use Rattle.sokopar.specs.Ends.{Seen}
 use Rattle.sokopar.specs.Levels.{BeginsReportOnLevels, IsReportOnLevels}
 use Rattle.sokopar.specs.Levels.{count_of, is_beaten, is_missing, is_optimal, is_undecided, is_unjudged}
 use Rattle.sokopar.specs.Listing.{Listed}
-use Rattle.sokopar.specs.Proving.{IsProofOf}
-use Rattle.sokopar.specs.Report.{Report, ReportsOnText, line}
+use Rattle.sokopar.specs.Moves.{claim_verdict}
+use Rattle.sokopar.specs.Proving.{IsJudgementOn, better_words, judgement_kind, judgement_words}
+use Rattle.sokopar.specs.Report.{line, verdict_words}
 use Rattle.sokopar.specs.Runs.{ReadsIfSome, Stops}
+use Rattle.sokopar.specs.Table.{Row, boxes_of, head_of, row_line}
 use Rattle.sokopar.specs.declared.fault.RunFault.{RunFault}
-use Rattle.sokopar.specs.declared.fault.RunFault.TheVariants.{OutOfMemory}
+use Rattle.sokopar.specs.declared.fault.RunFault.TheVariants as run
+use Rattle.sokopar.specs.declared.judgement.Counts.{Counts}
+use Rattle.sokopar.specs.declared.judgement.Judgement.{Judgement}
+use Rattle.sokopar.specs.declared.judgement.Judgement.TheVariants.{Compared, TooManyBoxes, Failing}
+use Rattle.sokopar.specs.declared.judgement.Judgement.TheVariants.{CannotRead, OutOfMemory}
+use Rattle.sokopar.specs.declared.judgement.Known.{Known}
+use Rattle.sokopar.specs.declared.judgement.Known.TheVariants.{AtLeast}
+use Rattle.sokopar.specs.declared.judgement.Standing.TheVariants.{Optimal, Better, Undecided}
 use Rattle.sokopar.specs.declared.proving.SolutionsRequest.{SolutionsRequest}
-use Rattle.sokopar.specs.declared.reported.Kind.{Kind}
-use Rattle.sokopar.specs.declared.reported.Kind.TheVariants as kind
+use Rattle.sokopar.specs.declared.reported.Kind.TheVariants.{Missing}
 use Rattle.sokopar.specs.declared.reported.Reported.{Reported}
 
--- two spaces for a line feed, and every other byte as it is
-abbrev pub in_one_line_byte : ℕ → List ℕ
-in_one_line_byte b = if b == 10 then 32 ∷ 32 ∷ [] else b ∷ []
+-- what is judged of a solution if reading it, or judging it, stopped for a fault
+abbrev pub stopped_by : RunFault → Judgement
+stopped_by run.OutOfMemory = OutOfMemory
+stopped_by fault = CannotRead
 
--- the lines of a report as one, with two spaces between them, and without the last line feed
-abbrev pub in_one_line : List ℕ → List ℕ
-in_one_line lines = flat_map in_one_line_byte (take (length lines - 1) lines)
+-- the verdict of a table on a solution that does not solve its level
+abbrev pub failure_verdict : Verdict → List ℕ
+failure_verdict (Unsolved pushes moves) = codes "unsolved"
+failure_verdict verdict = verdict_words verdict
 
--- how the totals count a report on a solution
-abbrev pub kind_of_report : Report → Kind
-kind_of_report report =
-    if report.status == 0 then kind.Optimal else if report.status == 4 then kind.Open else if
-    starts_with nat_eq report.text (codes "not ") then kind.Beaten else kind.NotJudged
+-- the verdict of a table: a word on how the solution compares with others, or else what is judged of it
+abbrev pub judgement_verdict : ℕ → Judgement → List ℕ
+judgement_verdict limit (Compared given (Optimal claim)) = claim_verdict claim
+judgement_verdict limit (Compared given (Better letters pushes known)) = codes "beaten"
+judgement_verdict limit (Compared given (Undecided bound)) = codes "open"
+judgement_verdict limit (Failing verdict) = failure_verdict verdict
+judgement_verdict limit judgement = judgement_words limit judgement
 
--- what the report has of level n with a report on its solution
-abbrev pub proved_of : ℕ → Report → Reported
-proved_of n report = record {
-  text = line (decimal n ++ codes " " ++ in_one_line report.text);
-  kind = kind_of_report report;
+-- the numbers of a given solution that solves the level
+abbrev pub given_of : Judgement → Option Counts
+given_of (Compared given standing) = Some given
+given_of (TooManyBoxes given) = Some given
+given_of judgement = None
+
+-- the numbers of the better solution, if there is one
+abbrev pub better_of : Judgement → Option Counts
+better_of (Compared given (Better letters pushes known)) = Some (record { pushes = pushes; moves = length letters })
+better_of judgement = None
+
+-- the bound of a search for the fewest pushes that ended at its limit, as a better solution was found
+abbrev pub known_bound : Known → Option ℕ
+known_bound (AtLeast bound) = Some bound
+known_bound known = None
+
+-- the bound of a search for the fewest pushes that ended at its limit
+abbrev pub judgement_bound : Judgement → Option ℕ
+judgement_bound (Compared given (Better letters pushes known)) = known_bound known
+judgement_bound (Compared given (Undecided bound)) = Some bound
+judgement_bound judgement = None
+
+-- the columns of level n with what is judged of its solution
+abbrev pub judgement_row : ℕ → ℕ → Listed → Judgement → Row
+judgement_row limit n listed judgement = record {
+  level = n;
+  first_line = listed.first_line;
+  boxes = boxes_of listed.board;
+  verdict = judgement_verdict limit judgement;
+  given = given_of judgement;
+  found = better_of judgement;
+  at_least = judgement_bound judgement;
+  name = listed.name;
+  solution = better_words [] [] judgement;
 }
 
--- what it has of level n if reading its solution, or judging it, stopped for a fault
-abbrev pub stopped_of : ℕ → RunFault → Reported
-stopped_of n OutOfMemory = record { text = line (decimal n ++ codes " out of memory"); kind = kind.OutOfMemory }
-stopped_of n fault = record { text = line (decimal n ++ codes " cannot read"); kind = kind.CannotRead }
+-- its line, in a table or in words
+abbrev pub judgement_line : Bool → ℕ → ℕ → Listed → Judgement → List ℕ
+judgement_line true limit n listed judgement = row_line (judgement_row limit n listed judgement)
+judgement_line false limit n listed judgement =
+    line (decimal n ++ codes " " ++ judgement_words limit judgement ++ better_words (codes "  ") [] judgement)
+
+-- what the report has of level n with what is judged of its solution
+abbrev pub judged_of : SolutionsRequest → ℕ → Listed → Judgement → Reported
+judged_of request n listed judgement = record {
+  text = judgement_line request.table request.limit n listed judgement;
+  kind = judgement_kind judgement;
+}
 
 -- what it has of a level without a solution: no line
 abbrev pub without_solution : Reported
-without_solution = record { text = []; kind = kind.Missing }
+without_solution = record { text = []; kind = Missing }
 
 -- a number and what it counts
 abbrev pub count_words : ℕ → List ℕ → List ℕ
@@ -58,37 +109,43 @@ solutions_words levels optimal beaten undecided unjudged missing =
     (codes " beaten, ") ++ count_words undecided (codes " open, ") ++ count_words unjudged (codes " not judged, ") ++
     count_words missing (codes " without a solution\n")
 
--- the totals of some levels
-abbrev pub solutions_line : List Reported → List ℕ
-solutions_line reported =
+-- the last line: the totals of some levels, except in a table
+abbrev pub solutions_line : Bool → List Reported → List ℕ
+solutions_line true reported = []
+solutions_line false reported =
     solutions_words (length reported) (count_of is_optimal reported) (count_of is_beaten reported)
     (count_of is_undecided reported) (count_of is_unjudged reported) (count_of is_missing reported)
 
--- what the report has of level n is right, by what opening its solution gave: nothing, if there is none; that it cannot
--- be read, if opening or reading it failed; that memory was refused; or the report of proving what was read. `opened`
--- states what opening the solution of a level gave: a file, or that there is none, or why it failed; `seen` is what
--- contracts see of a file
+-- what is judged of the solution in a file is right: that reading or judging it stopped, or what is judged of what was
+-- read. `seen` is what contracts see of a file
+pub data IsJudgedFrom {File : Type 0} (seen : File → Seen) (request : SolutionsRequest)
+    (level : Result Board LevelFault) (file : File) (judgement : Judgement) : Type 0 where
+  unread : (read : File) (fault : RunFault) → Stops (seen file) (seen read) fault → judgement ≡ stopped_by fault →
+      IsJudgedFrom seen request level file judgement
+  judged : (read : File) (text : Option (List ℕ)) → ReadsIfSome (seen file) (seen read) text →
+      IsJudgementOn request.moves request.limit level text judgement → IsJudgedFrom seen request level file judgement
+
+-- what the report has of level n is right, by what opening its solution gave: nothing, if there is none; or what is
+-- judged of it, as opening it failed, or of its file, from which nothing was read. `opened` states what opening the
+-- solution of a level gave: a file, or that there is none, or why it failed
 pub data IsProvedFrom {File : Type 0} (opened : ℕ → Result (Option File) RunFault → Type 0) (seen : File → Seen)
     (request : SolutionsRequest) (n : ℕ) (listed : Listed) (one : Reported) : Type 0 where
   missing : opened n (Ok None) → one ≡ without_solution → IsProvedFrom opened seen request n listed one
-  unopened : (fault : RunFault) → opened n (Err fault) → one ≡ stopped_of n fault →
+  unopened : (fault : RunFault) → opened n (Err fault) → one ≡ judged_of request n listed (stopped_by fault) →
       IsProvedFrom opened seen request n listed one
-  unread : (file read : File) (fault : RunFault) → opened n (Ok (Some file)) → (seen file).acts ≡ [] →
-      Stops (seen file) (seen read) fault → one ≡ stopped_of n fault → IsProvedFrom opened seen request n listed one
-  out_of_memory : one ≡ stopped_of n OutOfMemory → IsProvedFrom opened seen request n listed one
-  proved : (file read : File) (text : Option (List ℕ)) (report : Report) → opened n (Ok (Some file)) →
-      (seen file).acts ≡ [] → ReadsIfSome (seen file) (seen read) text →
-      ReportsOnText (IsProofOf request.moves request.limit) n (Some listed.board) text report →
-      one ≡ proved_of n report → IsProvedFrom opened seen request n listed one
+  proved : (file : File) (judgement : Judgement) → opened n (Ok (Some file)) → (seen file).acts ≡ [] →
+      IsJudgedFrom seen request listed.board file judgement → one ≡ judged_of request n listed judgement →
+      IsProvedFrom opened seen request n listed one
 
 -- the report of the solutions of the levels of these bytes with numbers in the range of a request, with its settings
 abbrev pub IsSolutionsReport : {File : Type 0} → (ℕ → Result (Option File) RunFault → Type 0) → (File → Seen) →
     SolutionsRequest → List ℕ → List (List ℕ) → ℕ → Type 0
 IsSolutionsReport opened seen request bytes lines status =
-    IsReportOnLevels (IsProvedFrom opened seen request) [] solutions_line request.from request.to bytes lines status
+    IsReportOnLevels (IsProvedFrom opened seen request) (head_of request.table) (solutions_line request.table)
+    request.from request.to bytes lines status
 
 -- the lines are the first ones of such a report
 abbrev pub BeginsSolutionsReport : {File : Type 0} → (ℕ → Result (Option File) RunFault → Type 0) → (File → Seen) →
     SolutionsRequest → List ℕ → List (List ℕ) → Type 0
 BeginsSolutionsReport opened seen request bytes lines =
-    BeginsReportOnLevels (IsProvedFrom opened seen request) [] request.from request.to bytes lines
+    BeginsReportOnLevels (IsProvedFrom opened seen request) (head_of request.table) request.from request.to bytes lines

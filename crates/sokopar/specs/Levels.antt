@@ -77,6 +77,15 @@ is_missing kind = false
 abbrev pub count_of : (Kind → Bool) → List Reported → ℕ
 count_of is reported = count_by (λ one. is one.kind) reported
 
+-- the exit status of one level
+abbrev pub kind_status : Kind → ℕ
+kind_status Optimal = 0
+kind_status Missing = 0
+kind_status CannotRead = 3
+kind_status Open = 4
+kind_status OutOfMemory = 5
+kind_status kind = 1
+
 -- the exit status of some levels: 0 if all are optimal, except those without a given solution; else 5 if a search ran
 -- out of memory, else 3 if a given solution cannot be read, else 4 if a search ended at its limit, else 1
 abbrev pub worst_status : List Reported → ℕ

@@ -10,6 +10,8 @@ use Rattle.sokopar.specs.Report.{counts_words}
 use Rattle.sokopar.specs.declared.moves.BestSolution.{BestSolution}
 use Rattle.sokopar.specs.declared.moves.MovesClaim.{MovesClaim}
 use Rattle.sokopar.specs.declared.moves.MovesClaim.TheVariants.{Counted, Fewest, Open}
+use Rattle.sokopar.specs.declared.reported.Kind.{Kind}
+use Rattle.sokopar.specs.declared.reported.Kind.TheVariants as kind
 
 -- the letters solve the level with this number of pushes, and no solution has fewer
 abbrev pub HasFewest : Board → List Letter → ℕ → Type 0
@@ -29,11 +31,17 @@ pub record IsBestSolution (wanted : Bool) (limit : ℕ) (board : Board) (best : 
   pub fewest : HasFewest board best.moves best.pushes
   pub claim : IsClaim wanted limit board best.pushes (length best.moves) best.claim
 
--- whether the search for the fewest moves ended at its limit
-abbrev pub is_open : MovesClaim → Bool
-is_open Counted = false
-is_open Fewest = false
-is_open Open = true
+-- how totals count a solution with the fewest pushes
+abbrev pub claim_kind : MovesClaim → Kind
+claim_kind Counted = kind.Optimal
+claim_kind Fewest = kind.Optimal
+claim_kind Open = kind.Open
+
+-- the verdict of a table on it
+abbrev pub claim_verdict : MovesClaim → List ℕ
+claim_verdict Counted = codes "optimal"
+claim_verdict Fewest = codes "optimal"
+claim_verdict Open = codes "optimal pushes"
 
 -- the numbers of pushes and moves of a solution with the fewest pushes
 abbrev pub optimal_words : ℕ → ℕ → List ℕ

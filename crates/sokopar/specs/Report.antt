@@ -127,19 +127,32 @@ abbrev pub cap_words : Option ℕ → List ℕ
 cap_words None = []
 cap_words (Some most) = decimal most
 
+-- a verdict on a solution in words
+abbrev pub verdict_words : Verdict → List ℕ
+verdict_words (verdict.Solved pushes moves) = codes "solved " ++ counts_words pushes moves
+verdict_words (verdict.Unsolved pushes moves) = codes "unsolved " ++ counts_words pushes moves
+verdict_words (verdict.Blocked at) = codes "blocked at " ++ decimal at
+verdict_words (verdict.WrongCase at) = codes "wrong case at " ++ decimal at
+
+-- its exit status
+abbrev pub verdict_status : Verdict → ℕ
+verdict_status (verdict.Solved pushes moves) = 0
+verdict_status other = 1
+
 -- the report of a verdict on a solution
 abbrev pub verdict_report : Verdict → Report
-verdict_report (verdict.Solved pushes moves) = one_line (codes "solved " ++ counts_words pushes moves) 0
-verdict_report (verdict.Unsolved pushes moves) = one_line (codes "unsolved " ++ counts_words pushes moves) 1
-verdict_report (verdict.Blocked at) = one_line (codes "blocked at " ++ decimal at) 1
-verdict_report (verdict.WrongCase at) = one_line (codes "wrong case at " ++ decimal at) 1
+verdict_report judged = one_line (verdict_words judged) (verdict_status judged)
+
+-- a fault in the text of a solution in words
+abbrev pub text_fault_words : LurdFault → List ℕ
+text_fault_words (text.BadByte at) = codes "bad byte at " ++ decimal at
+text_fault_words (text.BadCount at) = codes "bad count at " ++ decimal at
+text_fault_words text.TooManyMoves = codes "too many moves"
+text_fault_words text.OutOfMemory = codes "out of memory"
 
 -- the report where the text of a solution has a fault
 abbrev pub text_fault_report : LurdFault → Report
-text_fault_report (text.BadByte at) = one_line (codes "bad byte at " ++ decimal at) 1
-text_fault_report (text.BadCount at) = one_line (codes "bad count at " ++ decimal at) 1
-text_fault_report text.TooManyMoves = one_line (codes "too many moves") 1
-text_fault_report text.OutOfMemory = one_line (codes "out of memory") 1
+text_fault_report fault = one_line (text_fault_words fault) 1
 
 -- the report on the text of a solution of a lawful level: the first fault of the text, or what is reported of the
 -- verdict on its letters

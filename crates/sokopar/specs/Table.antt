@@ -1,6 +1,11 @@
 -- A table of the levels of a collection, with a tab between two columns.
-use Rattle.std.specs.Prelude.{ℕ, ◌==◌, if◌then◌else◌, List, ◌++◌, map, Option, Some, None, codes, decimal}
+use Rattle.std.specs.Prelude.{ℕ, ◌==◌, if◌then◌else◌, Bool, true, false, List, [], ◌++◌, map}
+use Rattle.std.specs.Prelude.{Result, Ok, Err, Option, Some, None, codes, decimal}
+use Rattle.grid.specs.Board.{Board}
+use Rattle.grid.specs.Lawful.{box_count}
+use Rattle.grid.specs.declared.fault.LevelFault.{LevelFault}
 use Rattle.sokopar.specs.Report.{line}
+use Rattle.sokopar.specs.declared.judgement.Counts.{Counts}
 
 -- the columns of a level: its number, its first line in the file, how many boxes it has, the verdict; the numbers of
 -- pushes and moves of the solution that was given, and of the one that was found; the least number of pushes of any
@@ -10,10 +15,8 @@ pub record Row : Type 0 where
   pub first_line : ℕ
   pub boxes : Option ℕ
   pub verdict : List ℕ
-  pub given_pushes : Option ℕ
-  pub given_moves : Option ℕ
-  pub pushes : Option ℕ
-  pub moves : Option ℕ
+  pub given : Option Counts
+  pub found : Option Counts
   pub at_least : Option ℕ
   pub name : List ℕ
   pub solution : List ℕ
@@ -39,21 +42,30 @@ without_tabs words = map without_tab words
 abbrev pub place_cells : Row → List ℕ
 place_cells row = decimal row.level ++ number_cell (Some row.first_line) ++ number_cell row.boxes
 
--- the numbers of pushes and moves
-abbrev pub count_cells : Row → List ℕ
-count_cells row =
-    number_cell row.given_pushes ++ number_cell row.given_moves ++ number_cell row.pushes ++ number_cell row.moves ++
-    number_cell row.at_least
+-- the numbers of pushes and moves of a solution, if there is one
+abbrev pub counts_cells : Option Counts → List ℕ
+counts_cells None = number_cell None ++ number_cell None
+counts_cells (Some counts) = number_cell (Some counts.pushes) ++ number_cell (Some counts.moves)
 
 -- the line of a level
 abbrev pub row_line : Row → List ℕ
 row_line row =
     line
-    (place_cells row ++ word_cell row.verdict ++ count_cells row ++ word_cell (without_tabs row.name) ++
-    word_cell row.solution)
+    (place_cells row ++ word_cell row.verdict ++ counts_cells row.given ++ counts_cells row.found ++
+    number_cell row.at_least ++ word_cell (without_tabs row.name) ++ word_cell row.solution)
 
 -- the first line: the names of the columns
 abbrev pub table_head : List ℕ
 table_head =
     line
     (codes "level\tline\tboxes\tverdict\tgiven pushes\tgiven moves\tpushes\tmoves\tat least\tname\tsolution")
+
+-- the first line of a report on levels: a table has the names of its columns
+abbrev pub head_of : Bool → List ℕ
+head_of true = table_head
+head_of false = []
+
+-- how many boxes a lawful level has
+abbrev pub boxes_of : Result Board LevelFault → Option ℕ
+boxes_of (Ok board) = Some (box_count board)
+boxes_of (Err fault) = None

@@ -5,4 +5,3 @@ pub mod Parts
 pub mod Totals
 pub mod Explaining
 pub mod Pages
-pub mod Proved

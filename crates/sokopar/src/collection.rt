@@ -1,9 +1,10 @@
 //! The report of finding solutions with the fewest pushes of the levels of a collection.
 ghost use Rattle.std.specs.Prelude.{◌≡◌, ◌++◌, ◌≤◌, length, IfOk, OnOk, codes, decimal};
 ghost use Rattle.sokopar.specs.Collection.{BeginsCollectionReport, IsCollectionReport, IsFound};
-ghost use Rattle.sokopar.specs.Collection.{finding_words, head_of, reported_of, totals_line};
+ghost use Rattle.sokopar.specs.Collection.{finding_words, reported_of, totals_line};
 ghost use Rattle.sokopar.specs.Entries.{entry_listed};
 ghost use Rattle.sokopar.specs.Report.{line};
+ghost use Rattle.sokopar.specs.Table.{head_of};
 ghost use Rattle.sokopar.specs.inside.Sending.{SendsByLine};
 
 use crate::fault::RunFault;
@@ -12,8 +13,9 @@ use crate::judge::Judge;
 use crate::levels::send_report;
 use crate::proving::{CollectionRequest, SearchConfig};
 use crate::reported::Reported;
+use crate::rows::put_finding_row;
 use crate::sink::Sink;
-use crate::table::put_row;
+use crate::table::head_of;
 use crate::text::Text;
 use crate::totals::{Totals, put_totals};
 use crate::watch::Watch;
@@ -51,7 +53,7 @@ fn reported_of(
 {
     let mut text = Text::new(alloc);
     if table {
-        put_row(&mut text, number, entry, finding)?;
+        put_finding_row(&mut text, number, entry, finding)?;
     } else {
         put_line(&mut text, number, finding, config)?;
     }
@@ -74,11 +76,7 @@ impl Judge for Searcher {
     ghost last_line = { λ it. totals_line it.table it.config.cap };
 
     fn first(&self) -> &'static [u8] {
-        if self.table {
-            b"level\tline\tboxes\tverdict\tgiven pushes\tgiven moves\tpushes\tmoves\tat least\tname\tsolution\n"
-        } else {
-            b""
-        }
+        head_of(self.table)
     }
 
     fn judge<R: Threads + Sync, P: Watch>(

@@ -15,7 +15,7 @@ use std::alloc::{AllocError, Global};
 use xsb::MAX_FILE;
 
 /// The byte of a square: a wall, a goal, a dead square of the player's room, or any other.
-fn mark_of(level: &Level, dead: &Dead, square: Square) -> u8
+pub(crate) fn mark_of(level: &Level, dead: &Dead, square: Square) -> u8
     requires { dead.now ≡ level.now }
     ensures { IsMark level.now square result }
 {

@@ -1,34 +1,31 @@
 //! Explaining the levels of a collection: where and why each is faulty or cannot be solved.
-ghost use Rattle.std.specs.Prelude.{◌≡◌, ℕ, suc, ◌+◌, ◌≤◌, ◌++◌, ◌∷◌, [], List, Option, cond, length, map, IfOk, OnOk, false};
-ghost use Rattle.grid.specs.Board.{Board};
+ghost use Rattle.std.specs.Prelude.{◌≡◌, ℕ, suc, ◌+◌, ◌≤◌, ◌++◌, ◌∷◌, [], List, Option, cond, length, IfOk, OnOk, true, false};
 ghost use Rattle.sokopar.specs.Entries.{listed_of};
-ghost use Rattle.sokopar.specs.Explaining.{Explains, IsExplainReport, IsTrueOf, drawn, explained, is_drawn, is_quiet};
-ghost use Rattle.sokopar.specs.Explaining.{is_sound, is_wanted, level_text};
+ghost use Rattle.sokopar.specs.Explaining.{Explains, IsExplainReport, IsTrueOf, excess_words, explained, is_drawn};
+ghost use Rattle.sokopar.specs.Explaining.{is_quiet, is_wanted};
 ghost use Rattle.sokopar.specs.Listing.{Listed};
 ghost use Rattle.sokopar.specs.Report.{check_line, good_count};
 ghost use Rattle.sokopar.specs.declared.remark.Remark.{Remark};
 ghost use Rattle.sokopar.specs.inside.Explaining.{HaveBroken, board_in};
-ghost use Rattle.sokopar.specs.inside.Pages.{Adds, IsPage, IsSourceOf};
+ghost use Rattle.sokopar.specs.inside.Pages.{IsPage, IsSourceOf, Tells};
 ghost use Rattle.sokopar.specs.inside.Parts.{is_good as good_board};
 ghost use Rattle.xsb.specs.Collection.{Found, IsJudged};
 ghost use Rattle.xsb.specs.Entries.{IsBoardEntry};
-ghost use Rattle.xsb.specs.Rows.{cell_byte};
-ghost use Rattle.xsb.specs.declared.places.RowPlace.{RowPlace};
-ghost use Rattle.xsb.specs.inside.Sources.{HasRowsFor, HasSource};
+ghost use Rattle.xsb.specs.inside.Sources.{HasSource};
 
 use crate::check::{is_good, put_line, put_totals};
-use crate::dead::put_map;
 use crate::doomed::remark_of_level;
-use crate::faulty::{Kind, is_too_large, remark_of_fault, squares_with};
+use crate::faulty::{Kind, remark_of_fault, squares_with};
+use crate::picture::put_drawn;
 use crate::remark::Remark;
 use crate::report::Report;
-use crate::sentences::{put_broken, put_remark, put_too_large};
+use crate::sentences::{put_broken, put_excess, put_remark};
 use crate::show::no_level;
 use crate::text::Text;
-use grid::{Cell, Level, LevelFault, MAX_COLS};
+use grid::{Level, LevelFault, MAX_COLS};
 use std::alloc::{AllocError, Global};
 use xsb::{
-    BoardEntry, BoardRows, BoardSource, BrokenRow, BrokenRows, Collection, MAX_FILE, cell_byte,
+    BoardEntry, BoardRows, BoardSource, BrokenRow, BrokenRows, Collection, Excess, MAX_FILE,
 };
 
 /// The text so far, and whether nothing was found so far.
@@ -103,7 +100,7 @@ fn head_of(alloc: Global, number: usize, entry: &BoardEntry) -> Result<Text, All
     Ok(head)
 }
 
-/// What is found against a level whose board is not too large.
+/// What is found against a level.
 fn remark_of(
     alloc: Global,
     board: &Result<Level, LevelFault>,
@@ -136,72 +133,69 @@ fn is_drawn(remark: &Remark, wanted: Option<u32>) -> bool
     ensures { result ≡ is_drawn remark.now wanted }
 {
     match remark {
-        Remark::TooLarge => false,
+        Remark::Exit(_) => true,
         _ => wanted.is_some(),
     }
 }
 
-/// The bytes of cells.
-fn bytes_of(alloc: Global, cells: &[Cell]) -> Result<Vec<u8>, AllocError>
-    ensures { IfOk result (λ bytes. bytes.items ≡ map cell_byte cells.now) }
-{
-    cells.iter().map(|cell| cell_byte(*cell)).collect(alloc)
-}
-
-/// Appends a board as it was read, if it is shown.
-fn put_drawn(
-    alloc: Global,
-    text: &mut Text,
-    rows: &BoardRows,
-    shown: bool,
-) -> Result<(), AllocError>
-    requires { 1 ≤ rows.now.cols }
-    ensures { OnOk result (text.new ≡ text.old ++ cond shown (drawn (board_in rows.now)) []) }
-{
-    if !shown {
-        return Ok(());
-    }
-    let bytes = bytes_of(alloc, &rows.cells)?;
-    put_map(
-        text,
-        rows.cells.len() / rows.cols,
-        rows.cols,
-        bytes.as_slice(),
-    )
-}
-
-/// Appends what is written of a level whose board is not too large.
+/// Appends what is written of a level against which this is found.
 fn put_found(
     alloc: Global,
     page: &mut Page,
     head: &Text,
     rows: &BoardRows,
+    board: &Result<Level, LevelFault>,
     remark: &Remark,
     wanted: Option<u32>,
 ) -> Result<(), AllocError>
-    requires { 1 ≤ rows.now.cols }
-    ensures { (n : ℕ) (listed : Listed) → head.now ≡ check_line n listed →
-        OnOk result (Adds (level_text wanted n listed (board_in rows.now) rows.now.places.items remark.now)
-        (is_sound remark.now) page.old page.new) }
+    requires columns { 1 ≤ rows.now.cols }
+    requires bound { length rows.now.cells.items ≤ 65535 }
+    requires judged { IsJudged (board_in rows.now) board.now }
+    ensures { (n : ℕ) (listed : Listed) → head.now ≡ check_line n listed → board.now ≡ listed.board →
+        OnOk result (Tells wanted n listed (board_in rows.now) rows.now.places.items remark.now page.old page.new) }
 {
     if is_quiet(remark, wanted) {
         return Ok(());
     }
     page.text.put(head.as_slice())?;
     put_remark(&mut page.text, rows, remark)?;
-    put_drawn(alloc, &mut page.text, rows, is_drawn(remark, wanted))?;
     page.sound &= remark.is_sound();
+    if is_drawn(remark, wanted) {
+        return put_drawn(alloc, &mut page.text, rows, board);
+    }
     Ok(())
 }
 
-/// Appends what is written of a level whose board is too large.
-fn put_large(page: &mut Page, head: &Text) -> Result<(), AllocError>
-    ensures { (wanted : Option ℕ) (n : ℕ) (listed : Listed) (board : Board) (places : List RowPlace) →
-        head.now ≡ check_line n listed →
-        OnOk result (Adds (level_text wanted n listed board places Remark.TooLarge) false page.old page.new) }
+/// Appends what is written of a level that is not too large.
+fn put_judged(
+    alloc: Global,
+    page: &mut Page,
+    head: &Text,
+    entry: BoardEntry,
+    rows: &BoardRows,
+    wanted: Option<u32>,
+) -> Result<(), AllocError>
+    requires columns { 1 ≤ rows.now.cols }
+    requires wide { rows.now.cols ≤ MAX_COLS }
+    requires bound { length rows.now.cells.items ≤ 65535 }
+    requires judged { IsJudged (board_in rows.now) entry.board }
+    ensures { (n : ℕ) → head.now ≡ check_line n (listed_of entry) →
+        OnOk result ((remark : Remark) × IsTrueOf (board_in rows.now) remark ×
+        Tells wanted n (listed_of entry) (board_in rows.now) rows.now.places.items remark page.old page.new) }
+{
+    let listed = entry.into_entry(alloc)?;
+    let remark = remark_of(alloc, &listed.board, rows)?;
+    put_found(alloc, page, head, rows, &listed.board, &remark, wanted)
+}
+
+/// Appends what is written of a level that is too large.
+fn put_large(page: &mut Page, head: &Text, excess: Excess) -> Result<(), AllocError>
+    ensures { (n : ℕ) (listed : Listed) → head.now ≡ check_line n listed →
+        OnOk result ((page.new.text ≡ page.old.text ++ check_line n listed ++ excess_words excess) ×
+        (page.new.sound ≡ false)) }
 {
     page.text.put(head.as_slice())?;
-    put_too_large(&mut page.text)?;
+    put_excess(&mut page.text, excess)?;
     page.sound = false;
     Ok(())
 }
@@ -215,23 +209,17 @@ fn put_wanted(
     wanted: Option<u32>,
 ) -> Result<(), AllocError>
     requires { (found : Found) × IsSourceOf source found }
-    ensures { (found : Found) (places : List RowPlace) → IsJudged found.board source.entry.board →
-        HasRowsFor found.board places source.rows →
-        OnOk result ((remark : Remark) × IsTrueOf found.board remark ×
-        Adds (level_text wanted number (listed_of source.entry) found.board places remark) (is_sound remark) page.old
-        page.new) }
+    ensures { (bytes : List ℕ) (found : Found) (listing : List Listed) → number ≡ suc (length listing) →
+        is_wanted wanted number ≡ true → IsBoardEntry source.entry found → HasSource bytes found source.rows →
+        Explains bytes wanted listing page.old.text page.old.sound →
+        OnOk result (Explains bytes wanted (listing ++ listed_of source.entry ∷ []) page.new.text page.new.sound) }
 {
     let BoardSource { entry, rows } = source;
     let head = head_of(alloc, number, &entry)?;
-    let Some(rows) = rows else {
-        return put_large(page, &head);
-    };
-    if is_too_large(&rows) {
-        return put_large(page, &head);
+    match rows {
+        Ok(rows) => put_judged(alloc, page, &head, entry, &rows, wanted),
+        Err(excess) => put_large(page, &head, excess),
     }
-    let listed = entry.into_entry(alloc)?;
-    let remark = remark_of(alloc, &listed.board, &rows)?;
-    put_found(alloc, page, &head, &rows, &remark, wanted)
 }
 
 /// Appends what is written of a level.

@@ -1,13 +1,12 @@
 //! What is found against a faulty board.
-ghost use Rattle.std.specs.Prelude.{◌≡◌, ◌≤◌, ◌<◌, ◌⊎◌, length, IfOk, MatchBool};
-ghost use Rattle.grid.specs.Lawful.{row_count};
+ghost use Rattle.std.specs.Prelude.{◌≡◌, ◌≤◌, length, IfOk};
 ghost use Rattle.grid.specs.Squares.{places_from};
 ghost use Rattle.sokopar.specs.Explaining.{IsTrueOf};
 ghost use Rattle.sokopar.specs.inside.Explaining.{board_in, is_kind};
 
 use crate::exits::exit_of;
 use crate::remark::Remark;
-use grid::{Cell, LevelFault, MAX_COLS, MAX_ROWS, MAX_SQUARES, Square};
+use grid::{Cell, LevelFault, MAX_COLS, Square};
 use std::alloc::{AllocError, Global};
 use xsb::BoardRows;
 
@@ -46,18 +45,6 @@ pub(crate) fn squares_with(
         }
     }
     Ok(squares)
-}
-
-/// Whether a board has too many rows or columns.
-pub(crate) fn is_too_large(rows: &BoardRows) -> bool
-    requires { 1 ≤ rows.now.cols }
-    ensures { MatchBool result ((MAX_ROWS < row_count (board_in rows.now)) ⊎ (MAX_COLS < rows.now.cols))
-        ((rows.now.cols ≤ MAX_COLS) × (length rows.now.cells.items ≤ 65535)) }
-{
-    if rows.cells.len() / rows.cols > MAX_ROWS {
-        return true;
-    }
-    rows.cols > MAX_COLS
 }
 
 /// What is found against a faulty board.

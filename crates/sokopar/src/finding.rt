@@ -31,13 +31,7 @@ impl Finding {
         ensures { result ≡ kind_of self.now }
     {
         match self {
-            Finding::Searched(BestOutcome::Least(best)) => {
-                if best.claim.is_open() {
-                    Kind::Open
-                } else {
-                    Kind::Optimal
-                }
-            }
+            Finding::Searched(BestOutcome::Least(best)) => best.claim.kind(),
             Finding::Searched(BestOutcome::NoneWithin) => Kind::Unsolved,
             Finding::Searched(BestOutcome::Unsolvable) => Kind::Unsolved,
             Finding::Searched(BestOutcome::Limit { .. }) => Kind::Open,

@@ -1,135 +1,82 @@
 //! The report of proving the solutions of a folder.
 ghost use denote.Param.Send.{IsSync};
-ghost use Rattle.std.specs.Prelude.{◌≡◌, ◌++◌, ◌≤◌, [], length, IfOk, OnOk};
-ghost use Rattle.sokopar.specs.Entries.{listed_of};
-ghost use Rattle.sokopar.specs.Folder.{BeginsSolutionsReport, IsProvedFrom, IsSolutionsReport};
-ghost use Rattle.sokopar.specs.Folder.{in_one_line, in_one_line_byte, kind_of_report, proved_of, solutions_line, stopped_of, without_solution};
+ghost use Rattle.std.specs.Prelude.{◌≡◌, ◌++◌, ◌≤◌, [], length, IfOk, OnOk, codes, decimal};
+ghost use Rattle.sokopar.specs.Entries.{entry_listed, listed_of};
+ghost use Rattle.sokopar.specs.Folder.{BeginsSolutionsReport, IsJudgedFrom, IsProvedFrom, IsSolutionsReport};
+ghost use Rattle.sokopar.specs.Folder.{judged_of, solutions_line, stopped_by};
+ghost use Rattle.sokopar.specs.Proving.{better_words, judgement_words};
+ghost use Rattle.sokopar.specs.Report.{line};
+ghost use Rattle.sokopar.specs.Table.{head_of};
 ghost use Rattle.sokopar.specs.inside.Sending.{SendsByLine};
-ghost use Rattle.sokopar.specs.inside.Proved.{HasProved, proved_by};
-ghost use Rattle.sokopar.specs.inside.Totals.{line_of_solutions};
 
 use crate::fault::RunFault;
 use crate::folder::Folder;
 use crate::judge::Judge;
+use crate::judgement::{Judgement, put_better, put_judgement};
 use crate::levels::send_report;
-use crate::prove::prove_level;
+use crate::prove::judge_level;
 use crate::proving::{ProveRequest, SolutionsRequest};
-use crate::report::Report;
 use crate::reported::{Kind, Reported};
+use crate::rows::put_judgement_row;
 use crate::sink::Sink;
 use crate::source::Source;
+use crate::table::head_of;
 use crate::text::Text;
 use crate::totals::{Totals, put_solutions};
 use crate::watch::Watch;
+use grid::{Level, LevelFault};
 use std::alloc::{AllocError, Global};
 use std::thread::Threads;
-use xsb::{BoardEntry, MAX_FILE};
+use xsb::{BoardEntry, Entry, MAX_FILE};
 
-/// Appends two spaces for a line feed, and every other byte as it is.
-fn put_byte(text: &mut Text, byte: u8) -> Result<(), AllocError>
-    ensures { OnOk result (text.new ≡ text.old ++ in_one_line_byte byte) }
+/// Appends the line of a level with what is judged of its solution in words.
+fn put_line(
+    text: &mut Text,
+    number: u32,
+    judgement: &Judgement,
+    limit: u32,
+) -> Result<(), AllocError>
+    ensures { OnOk result (text.new ≡ text.old ++ line (decimal number ++ codes " " ++
+        judgement_words limit judgement.now ++ better_words (codes "  ") [] judgement.now)) }
 {
-    if byte == b'\n' {
-        text.put(b"  ")
-    } else {
-        text.put(&[byte])
-    }
-}
-
-/// Appends the lines of a report as one, with two spaces between them, and without the last line feed.
-fn put_in_one_line(text: &mut Text, lines: &[u8]) -> Result<(), AllocError>
-    ensures { OnOk result (text.new ≡ text.old ++ in_one_line lines.now) }
-{
-    let mut rest = &lines[..lines.len().saturating_sub(1)];
-    'bytes: while let [byte, later @ ..] = rest {
-        put_byte(text, *byte)?;
-        rest = later;
-    }
-    Ok(())
-}
-
-/// How the totals count a report on a solution.
-fn kind_of(report: &Report) -> Kind
-    ensures { result ≡ kind_of_report report.now }
-{
-    if report.status() == 0 {
-        return Kind::Optimal;
-    }
-    if report.status() == 4 {
-        return Kind::Open;
-    }
-    if report.text().starts_with(b"not ") {
-        return Kind::Beaten;
-    }
-    Kind::NotJudged
-}
-
-/// What the report has of a level with a report on its solution.
-fn proved(alloc: Global, number: u32, report: &Report) -> Result<Reported, AllocError>
-    ensures { IfOk result (λ one. one ≡ proved_of number report.now) }
-{
-    let mut text = Text::new(alloc);
     text.put_number(number as usize)?;
     text.put(b" ")?;
-    put_in_one_line(&mut text, report.text())?;
-    text.put(b"\n")?;
-    let kind = kind_of(report);
-    Ok(Reported { text, kind })
+    put_judgement(text, judgement, limit)?;
+    put_better(text, judgement, b"  ", b"")?;
+    text.put(b"\n")
 }
 
-/// What the report has of a level if judging its solution stopped for a fault.
-fn stopped(alloc: Global, number: u32, fault: RunFault) -> Result<Reported, AllocError>
-    ensures { IfOk result (λ one. one ≡ stopped_of number fault) }
-{
-    let mut text = Text::new(alloc);
-    text.put_number(number as usize)?;
-    let kind = match fault {
-        RunFault::OutOfMemory => {
-            text.put(b" out of memory\n")?;
-            Kind::OutOfMemory
-        }
-        RunFault::Read => {
-            text.put(b" cannot read\n")?;
-            Kind::CannotRead
-        }
-        RunFault::Write => {
-            text.put(b" cannot read\n")?;
-            Kind::CannotRead
-        }
-        RunFault::TooLong => {
-            text.put(b" cannot read\n")?;
-            Kind::CannotRead
-        }
-    };
-    Ok(Reported { text, kind })
-}
-
-/// What the report has of a level, by a report on its solution, or why there is none.
-fn proved_by(
+/// What the report has of a level with what is judged of its solution.
+fn judged_of(
     alloc: Global,
     number: u32,
-    judged: &Result<Report, RunFault>,
+    entry: &Entry,
+    judgement: &Judgement,
+    request: SolutionsRequest,
 ) -> Result<Reported, AllocError>
-    ensures { IfOk result (λ one. one ≡ proved_by number judged.now) }
+    ensures { IfOk result (λ one. one ≡ judged_of request number (entry_listed entry.now) judgement.now) }
 {
-    match judged {
-        Ok(report) => proved(alloc, number, report),
-        Err(fault) => stopped(alloc, number, *fault),
+    let mut text = Text::new(alloc);
+    if request.table {
+        put_judgement_row(&mut text, number, entry, judgement, request.limit)?;
+    } else {
+        put_line(&mut text, number, judgement, request.limit)?;
     }
+    let kind = judgement.kind();
+    Ok(Reported { text, kind })
 }
 
-/// Reads a solution of the level of a board, and proves it. Returns what the report has of it.
-fn prove_file<R: Threads + Sync, T: Source + Drop, P: Watch>(
+/// What is judged of the solution in a file.
+fn judge_file<R: Threads + Sync, T: Source + Drop, P: Watch>(
     rt: &R,
     alloc: Global,
     number: u32,
-    board: BoardEntry,
+    board: &Result<Level, LevelFault>,
     file: T,
     request: SolutionsRequest,
     watch: &mut P,
-) -> Result<Reported, AllocError>
-    requires { 1 ≤ number }
-    ensures { IfOk result (λ one. HasProved T.seen request number (listed_of board) file one) }
+) -> Judgement
+    ensures { IsJudgedFrom T.seen request board.now file result }
 {
     let SolutionsRequest {
         workers,
@@ -144,12 +91,52 @@ fn prove_file<R: Threads + Sync, T: Source + Drop, P: Watch>(
         moves,
         lurd: false,
     };
-    let entry = board.into_entry(alloc)?;
-    let chosen = Some(entry.board);
     let mut file = file;
     watch.begin(number);
-    let judged = prove_level(rt, alloc, &chosen, search, &mut file, watch);
-    proved_by(alloc, number, &judged)
+    let judged = judge_level(rt, alloc, board, search, &mut file, watch);
+    match judged {
+        Ok(judgement) => judgement,
+        Err(fault) => Judgement::stopped_by(fault),
+    }
+}
+
+/// What the report has of a level with the solution in a file.
+fn prove_file<R: Threads + Sync, T: Source + Drop, P: Watch>(
+    rt: &R,
+    alloc: Global,
+    number: u32,
+    board: BoardEntry,
+    file: T,
+    request: SolutionsRequest,
+    watch: &mut P,
+) -> Result<Reported, AllocError>
+    ensures { IfOk result (λ one. (judgement : Judgement) ×
+        IsJudgedFrom T.seen request (listed_of board).board file judgement ×
+        (one ≡ judged_of request number (listed_of board) judgement)) }
+{
+    let entry = board.into_entry(alloc)?;
+    let judgement = judge_file(rt, alloc, number, &entry.board, file, request, watch);
+    judged_of(alloc, number, &entry, &judgement, request)
+}
+
+/// What the report has of a level whose solution could not be opened.
+fn unopened(
+    alloc: Global,
+    number: u32,
+    board: BoardEntry,
+    fault: RunFault,
+    request: SolutionsRequest,
+) -> Result<Reported, AllocError>
+    ensures { IfOk result (λ one. one ≡ judged_of request number (listed_of board) (stopped_by fault)) }
+{
+    let entry = board.into_entry(alloc)?;
+    judged_of(
+        alloc,
+        number,
+        &entry,
+        &Judgement::stopped_by(fault),
+        request,
+    )
 }
 
 /// Proves the solutions of a folder.
@@ -162,12 +149,12 @@ struct Prover<'f, D> {
 impl<'f, D: Folder> Judge for Prover<'f, D> {
     ghost is_right = { λ it. IsProvedFrom (D.opened it.folder.now) D.File.seen it.request };
 
-    ghost first_line = { λ it. [] };
+    ghost first_line = { λ it. head_of it.request.table };
 
-    ghost last_line = { λ it. solutions_line };
+    ghost last_line = { λ it. solutions_line it.request.table };
 
     fn first(&self) -> &'static [u8] {
-        b""
+        head_of(self.request.table)
     }
 
     fn judge<R: Threads + Sync, P: Watch>(
@@ -184,13 +171,15 @@ impl<'f, D: Folder> Judge for Prover<'f, D> {
                 text: Text::new(alloc),
                 kind: Kind::Missing,
             }),
-            Err(fault) => stopped(alloc, number, fault),
+            Err(fault) => unopened(alloc, number, board, fault, self.request),
         }
     }
 
     fn last(&self, alloc: Global, totals: Totals) -> Result<Text, AllocError> {
         let mut line = Text::new(alloc);
-        put_solutions(&mut line, totals)?;
+        if !self.request.table {
+            put_solutions(&mut line, totals)?;
+        }
         Ok(line)
     }
 }

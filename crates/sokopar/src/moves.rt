@@ -7,10 +7,12 @@ ghost use Rattle.prover.specs.Fewest.{NoneHasFewer};
 ghost use Rattle.prover.specs.Parity.{SomeHas};
 ghost use Rattle.shortest.specs.Improving.{IsNoWorse};
 ghost use Rattle.shortest.specs.Outcomes.{IsMovesOutcome};
-ghost use Rattle.sokopar.specs.Moves.{IsBestSolution, best_words, claim_status, claimed_words, is_open, optimal_words};
+ghost use Rattle.sokopar.specs.Moves.{IsBestSolution, best_words, claim_kind, claim_status, claim_verdict};
+ghost use Rattle.sokopar.specs.Moves.{claimed_words, optimal_words};
 ghost use Rattle.sokopar.specs.inside.Parts.{fewest_words};
 
 use crate::replay::put_counts;
+use crate::reported::Kind;
 use crate::solve::put_limit;
 use crate::text::Text;
 use grid::{Level, MAX_BOXES, Moves};
@@ -30,14 +32,25 @@ pub enum MovesClaim {
 }
 
 impl MovesClaim {
-    /// Whether the search for the fewest moves ended at its limit.
-    pub(crate) fn is_open(self) -> bool
-        ensures { result ≡ is_open self }
+    /// How the totals count a solution with the fewest pushes.
+    pub(crate) fn kind(self) -> Kind
+        ensures { result ≡ claim_kind self }
     {
         match self {
-            MovesClaim::Counted => false,
-            MovesClaim::Fewest => false,
-            MovesClaim::Open => true,
+            MovesClaim::Counted => Kind::Optimal,
+            MovesClaim::Fewest => Kind::Optimal,
+            MovesClaim::Open => Kind::Open,
+        }
+    }
+
+    /// The verdict of a table on it.
+    pub(crate) fn verdict(self) -> &'static [u8]
+        ensures { result.now ≡ claim_verdict self }
+    {
+        match self {
+            MovesClaim::Counted => b"optimal",
+            MovesClaim::Fewest => b"optimal",
+            MovesClaim::Open => b"optimal pushes",
         }
     }
 

@@ -1,8 +1,7 @@
-ghost use Rattle.std.specs.Prelude.{◌≡◌, ◌⊎◌, ◌≤◌, ◌<◌, ◌++◌, ℕ, true, List, Option, Some, Ok, length, codes, IfOk};
+ghost use Rattle.std.specs.Prelude.{◌≡◌, ◌≢◌, ◌⊎◌, ◌≤◌, ◌<◌, ℕ, true, List, Option, Some, Ok, length, IfOk};
 ghost use Rattle.std.specs.Prelude.{IfErr, OnOk};
 ghost use Rattle.grid.specs.Board.{Board};
 ghost use Rattle.grid.specs.Lawful.{box_count};
-ghost use Rattle.lurd.specs.Text.{bytes_of};
 ghost use Rattle.lurd.specs.Verdict.{IsVerdict};
 ghost use Rattle.lurd.specs.declared.limits.TheConstants.{MAX_MOVES};
 ghost use Rattle.lurd.specs.declared.verdict.Verdict.TheVariants.{Solved};
@@ -11,30 +10,23 @@ ghost use Rattle.prover.specs.Parity.{SomeHas};
 ghost use Rattle.shortest.specs.Outcomes.{IsMovesOutcome};
 ghost use Rattle.sokopar.specs.Best.{IsUndecided};
 ghost use Rattle.sokopar.specs.Listing.{IsLevelOf};
-ghost use Rattle.sokopar.specs.Moves.{IsClaim, optimal_words};
-ghost use Rattle.sokopar.specs.Proving.{IsProved, IsProofOf, IsProvedBy, IsProveReport, beaten_report, found_report};
-ghost use Rattle.sokopar.specs.Proving.{optimal_report, shorter_report, shorter_words, undecided_report};
-ghost use Rattle.sokopar.specs.Report.{IsSearchOf, ReportsOnText, line};
+ghost use Rattle.sokopar.specs.Moves.{IsClaim};
+ghost use Rattle.sokopar.specs.Proving.{IsJudged, IsJudgement, IsJudgementOn, IsProofOf, IsProveReport, IsStanding};
+ghost use Rattle.sokopar.specs.Report.{ReportsOnText};
 ghost use Rattle.sokopar.specs.Runs.{ReadsIfSome, Stops};
 ghost use Rattle.sokopar.specs.declared.moves.MovesClaim.TheVariants.{Open};
 
-use crate::best::put_undecided;
 use crate::fault::RunFault;
+use crate::judgement::{Counts, Judgement, Known, Standing, judgement_report};
 use crate::listing::{Chosen, level_of};
-use crate::moves::{
-    BestSolution, MovesClaim, best_solution, improved, put_best, put_claimed, put_optimal,
-    search_fewest,
-};
+use crate::moves::{MovesClaim, best_solution, improved, search_fewest};
 use crate::proving::ProveRequest;
 use crate::reads::read_whole;
-use crate::replay::{put_counts, text_fault_report, verdict_report};
 use crate::report::Report;
-use crate::show::{fault_report, no_level};
-use crate::solve::{put_limit, too_many_boxes};
+use crate::show::no_level;
 use crate::source::Source;
-use crate::text::Text;
-use grid::{Level, MAX_BOXES, Moves};
-use lurd::{Verdict, parse, replay};
+use grid::{Level, LevelFault, MAX_BOXES, Moves};
+use lurd::{LurdFault, Verdict, parse, replay};
 use prover::laws::solutions_are_alike;
 use prover::{Outcome, Progress, SearchFault};
 use shortest::{Aim, MovesOutcome};
@@ -42,145 +34,24 @@ use std::alloc::{AllocError, Global};
 use std::thread::Threads;
 use xsb::MAX_FILE;
 
-/// The numbers of pushes and moves of a solution.
-#[derive(Clone, Copy)]
-struct Counts {
-    pushes: usize,
-    moves: usize,
-}
-
-/// The report that no solution has fewer pushes, with a claim on the moves, under a limit of positions.
-fn optimal(
-    alloc: Global,
-    given: Counts,
-    claim: MovesClaim,
-    limit: u32,
-) -> Result<Report, AllocError>
-    ensures { IfOk result (λ report. report ≡ optimal_report limit given.pushes given.moves claim) }
-{
-    let mut text = Text::new(alloc);
-    put_claimed(&mut text, given.pushes, given.moves, claim, limit)?;
-    text.put(b"\n")?;
-    Ok(Report::new(text, claim.status()))
-}
-
-/// Begins the report that another solution is better.
-fn not_optimal(alloc: Global, given: Counts) -> Result<Text, AllocError>
-    ensures { IfOk result (λ text. text ≡ codes "not " ++ optimal_words given.pushes given.moves ++ codes ", ") }
-{
-    let mut text = Text::new(alloc);
-    text.put(b"not ")?;
-    put_optimal(&mut text, given.pushes, given.moves)?;
-    text.put(b", ")?;
-    Ok(text)
-}
-
-/// Ends the report that another solution is better, with that solution.
-fn with_letters(text: Text, moves: &Moves) -> Result<Report, AllocError>
-    ensures { IfOk result (λ report. report ≡ record { text = line text ++ line (bytes_of moves.now); status = 1 }) }
-{
-    let mut text = text;
-    text.put(b"\n")?;
-    text.put_letters(moves)?;
-    text.put(b"\n")?;
-    Ok(Report::new(text, 1))
-}
-
-/// The report that another solution is better, which has the fewest pushes, under a limit of positions.
-fn beaten(
-    alloc: Global,
-    given: Counts,
-    best: &BestSolution,
-    limit: u32,
-) -> Result<Report, AllocError>
-    ensures { IfOk result (λ report. report ≡ beaten_report limit given.pushes given.moves best.now) }
-{
-    let mut text = not_optimal(alloc, given)?;
-    put_best(&mut text, best, limit)?;
-    with_letters(text, &best.moves)
-}
-
-/// The report that moves with fewer pushes were found before the search ended at its limit; every solution has at
-/// least `bound` pushes.
-fn found(
-    alloc: Global,
-    given: Counts,
-    moves: &Moves,
-    fewer: usize,
-    limit: u32,
-    bound: u32,
-) -> Result<Report, AllocError>
-    ensures { IfOk result (λ report. report ≡ found_report limit bound given.pushes given.moves fewer moves.now) }
-{
-    let mut text = not_optimal(alloc, given)?;
-    text.put(b"found ")?;
-    put_counts(&mut text, fewer, moves.len())?;
-    text.put(b", ")?;
-    put_undecided(&mut text, limit, bound)?;
-    with_letters(text, moves)
-}
-
-/// Appends the fewest pushes and a number of moves, and that the search for the fewest moves ended at its limit.
-fn put_shorter(text: &mut Text, pushes: usize, moves: usize, limit: u32) -> Result<(), AllocError>
-    ensures { OnOk result (text.new ≡ text.old ++ shorter_words limit pushes moves) }
-{
-    text.put(b"optimal ")?;
-    text.put_number(pushes)?;
-    text.put(b" pushes, found ")?;
-    text.put_number(moves)?;
-    text.put(b" moves, ")?;
-    put_limit(text, limit)
-}
-
-/// The report that fewer moves with as many pushes, the fewest, were found after the search for the fewest moves ended
-/// at its limit.
-fn shorter(alloc: Global, given: Counts, moves: &Moves, limit: u32) -> Result<Report, AllocError>
-    ensures { IfOk result (λ report. report ≡ shorter_report limit given.pushes given.moves moves.now) }
-{
-    let mut text = not_optimal(alloc, given)?;
-    put_shorter(&mut text, given.pushes, moves.len(), limit)?;
-    with_letters(text, moves)
-}
-
-/// The report of a solution if the search ended at its limit; every solution has at least `bound` pushes.
-fn undecided(alloc: Global, given: Counts, limit: u32, bound: u32) -> Result<Report, AllocError>
-    ensures { IfOk result (λ report. report ≡ undecided_report limit bound given.pushes given.moves) }
-{
-    let mut text = Text::new(alloc);
-    put_undecided(&mut text, limit, bound)?;
-    text.put(b", given ")?;
-    put_counts(&mut text, given.pushes, given.moves)?;
-    text.put(b"\n")?;
-    Ok(Report::new(text, 4))
-}
-
-/// The report of a solution with the fewest pushes, given the moves of one that has, of all these, the fewest moves.
-fn compared(
-    alloc: Global,
-    level: &Level,
-    given: Counts,
-    moves: Moves,
-    request: ProveRequest,
-) -> Result<Report, AllocError>
+/// How a solution with the fewest pushes compares with one that has, of all these, the fewest moves.
+fn compared(level: &Level, given: Counts, moves: Moves, request: ProveRequest) -> Standing
     requires wanted { request.moves ≡ true }
-    requires pushes { given.pushes ≤ MAX_MOVES }
     requires fewest { NoneHasFewer level.now given.pushes }
     requires best { IsMovesOutcome level.now given.pushes request.limit (MovesOutcome.Least moves) }
-    ensures { IfOk result (λ report. IsProved request.moves request.limit given.pushes given.moves level.now report) }
+    ensures { IsStanding request.moves request.limit level.now given result }
 {
     if moves.len() >= given.moves {
-        return optimal(alloc, given, MovesClaim::Fewest, request.limit);
+        return Standing::Optimal(MovesClaim::Fewest);
     }
-    let best = BestSolution {
+    Standing::Better {
         moves,
-        pushes: given.pushes as u32,
-        claim: MovesClaim::Fewest,
-    };
-    beaten(alloc, given, &best, request.limit)
+        pushes: given.pushes,
+        known: Known::FewestPushes(MovesClaim::Fewest),
+    }
 }
 
-#[tactic(auto, using(crate::proofs::Judging::judged_optimal))]
-/// The report of a solution with the fewest pushes if the search for the fewest moves ended at its limit. A search near
+/// How a solution with the fewest pushes compares if the search for the fewest moves ended at its limit. A search near
 /// the solution looks for fewer moves.
 fn with_open_moves(
     alloc: Global,
@@ -188,50 +59,54 @@ fn with_open_moves(
     given: Counts,
     moves: Moves,
     request: ProveRequest,
-) -> Result<Report, AllocError>
+) -> Result<Standing, AllocError>
     requires fewest { NoneHasFewer level.now given.pushes }
     requires open { IsClaim request.moves request.limit level.now given.pushes given.moves Open }
-    ensures { IfOk result (λ report. IsProved request.moves request.limit given.pushes given.moves level.now report) }
+    ensures { IfOk result (λ standing. IsStanding request.moves request.limit level.now given standing) }
 {
     let moves = improved(alloc, level, moves, Aim::FewerMoves, request.limit);
     let verdict = replay(alloc, level, &moves)?;
     let Verdict::Solved { pushes, .. } = verdict else {
-        return optimal(alloc, given, MovesClaim::Open, request.limit);
+        return Ok(Standing::Optimal(MovesClaim::Open));
     };
     if pushes != given.pushes {
-        return optimal(alloc, given, MovesClaim::Open, request.limit);
+        return Ok(Standing::Optimal(MovesClaim::Open));
     }
     if moves.len() >= given.moves {
-        return optimal(alloc, given, MovesClaim::Open, request.limit);
+        return Ok(Standing::Optimal(MovesClaim::Open));
     }
-    shorter(alloc, given, &moves, request.limit)
+    Ok(Standing::Better {
+        moves,
+        pushes,
+        known: Known::FewerMoves,
+    })
 }
 
-/// The report of a solution with the fewest pushes. If the fewest moves are wanted, it looks for them.
+/// How a solution with the fewest pushes compares. If the fewest moves are wanted, it looks for them.
 fn with_fewest_pushes(
     alloc: Global,
     level: &Level,
     given: Counts,
     moves: Moves,
     request: ProveRequest,
-) -> Result<Report, AllocError>
+) -> Result<Standing, AllocError>
     requires some { SomeHas level.now given.pushes }
     requires pushes { given.pushes ≤ MAX_MOVES }
     requires fewest { NoneHasFewer level.now given.pushes }
     requires few { box_count level.now ≤ MAX_BOXES }
-    ensures { IfOk result (λ report. IsProved request.moves request.limit given.pushes given.moves level.now report) }
+    ensures { IfOk result (λ standing. IsStanding request.moves request.limit level.now given standing) }
 {
     if !request.moves {
-        return optimal(alloc, given, MovesClaim::Counted, request.limit);
+        return Ok(Standing::Optimal(MovesClaim::Counted));
     }
     let outcome = search_fewest(alloc, level, given.pushes as u32, request.limit)?;
     match outcome {
-        MovesOutcome::Least { moves: fewest } => compared(alloc, level, given, fewest, request),
+        MovesOutcome::Least { moves: fewest } => Ok(compared(level, given, fewest, request)),
         MovesOutcome::Limit => with_open_moves(alloc, level, given, moves, request),
     }
 }
 
-/// The report of a solution, given the moves of one that has fewer pushes and, of all solutions, the fewest. If the
+/// How a solution compares, given the moves of one that has fewer pushes and, of all solutions, the fewest. If the
 /// fewest moves are wanted, it looks for them.
 fn with_more_pushes(
     alloc: Global,
@@ -240,18 +115,22 @@ fn with_more_pushes(
     moves: Moves,
     pushes: u32,
     request: ProveRequest,
-) -> Result<Report, AllocError>
+) -> Result<Standing, AllocError>
     requires solved { IsVerdict level.now moves (Solved pushes (length moves)) }
     requires fewest { NoneHasFewer level.now pushes }
     requires fewer { pushes < given.pushes }
     requires few { box_count level.now ≤ MAX_BOXES }
-    ensures { IfOk result (λ report. IsProved request.moves request.limit given.pushes given.moves level.now report) }
+    ensures { IfOk result (λ standing. IsStanding request.moves request.limit level.now given standing) }
 {
     let best = best_solution(alloc, level, moves, pushes, request.moves, request.limit)?;
-    beaten(alloc, given, &best, request.limit)
+    Ok(Standing::Better {
+        moves: best.moves,
+        pushes: best.pushes as usize,
+        known: Known::FewestPushes(best.claim),
+    })
 }
 
-/// The report of a solution if the search for the fewest pushes ended at its limit; every solution has at least `bound`
+/// How a solution compares if the search for the fewest pushes ended at its limit; every solution has at least `bound`
 /// pushes. A search near the solution looks for fewer.
 fn with_open_pushes(
     alloc: Global,
@@ -260,33 +139,37 @@ fn with_open_pushes(
     moves: Moves,
     bound: u32,
     request: ProveRequest,
-) -> Result<Report, AllocError>
+) -> Result<Standing, AllocError>
     requires pushes { given.pushes ≤ MAX_MOVES }
     requires open { IsUndecided request.limit level.now bound }
     requires bound { bound < given.pushes }
     requires few { box_count level.now ≤ MAX_BOXES }
-    ensures { IfOk result (λ report. IsProved request.moves request.limit given.pushes given.moves level.now report) }
+    ensures { IfOk result (λ standing. IsStanding request.moves request.limit level.now given standing) }
 {
     let moves = improved(alloc, level, moves, Aim::FewerPushes, request.limit);
     let verdict = replay(alloc, level, &moves)?;
     let Verdict::Solved { pushes, .. } = verdict else {
-        return undecided(alloc, given, request.limit, bound);
+        return Ok(Standing::Undecided { at_least: bound });
     };
     if pushes >= given.pushes {
-        return undecided(alloc, given, request.limit, bound);
+        return Ok(Standing::Undecided { at_least: bound });
     }
     if (bound as usize) < pushes {
-        return found(alloc, given, &moves, pushes, request.limit, bound);
+        return Ok(Standing::Better {
+            moves,
+            pushes,
+            known: Known::AtLeast(bound),
+        });
     }
     with_more_pushes(alloc, level, given, moves, pushes as u32, request)
 }
 
-#[tactic(auto, using(crate::proofs::Judging::of_judged, crate::proofs::Judging::of_search_fault))]
-/// The report of a solution with these numbers of pushes and moves, under a limit of positions.
+#[tactic(auto, using(crate::proofs::Judging::of_search_fault))]
+/// How a solution with these numbers of pushes and moves compares with others, under a limit of positions.
 ///
 /// All solutions of a level have an even number of pushes, or all have an odd number. So a solution has the fewest
 /// pushes unless another one has at least two fewer.
-fn judged<R: Threads + Sync, P: Progress>(
+fn standing_of<R: Threads + Sync, P: Progress>(
     rt: &R,
     alloc: Global,
     level: &Level,
@@ -294,17 +177,14 @@ fn judged<R: Threads + Sync, P: Progress>(
     moves: Moves,
     request: ProveRequest,
     progress: &mut P,
-) -> Result<Report, AllocError>
+) -> Result<Standing, AllocError>
     requires some { SomeHas level.now given.pushes }
-    requires few { given.pushes ≤ MAX_MOVES }
-    ensures { IfOk result (λ report.
-        IsSearchOf (IsProved request.moves request.limit given.pushes given.moves) level.now report) }
+    requires pushes { given.pushes ≤ MAX_MOVES }
+    requires few { box_count level.now ≤ MAX_BOXES }
+    ensures { IfOk result (λ standing. IsStanding request.moves request.limit level.now given standing) }
 {
     level.tell();
     solutions_are_alike(level);
-    if level.boxes() > MAX_BOXES {
-        return too_many_boxes(alloc);
-    }
     if given.pushes < 2 {
         return with_fewest_pushes(alloc, level, given, moves, request);
     }
@@ -319,24 +199,23 @@ fn judged<R: Threads + Sync, P: Progress>(
         Ok(Outcome::Limit { at_least }) => with_open_pushes(
             alloc, level, given, moves, at_least, request,
         ),
-        Err(SearchFault::TooManyBoxes) => too_many_boxes(alloc),
+        Err(SearchFault::TooManyBoxes) => unreachable!(),
         Err(SearchFault::OutOfMemory { .. }) => Err(AllocError),
     }
 }
 
 #[tactic(auto, using(crate::proofs::Judging::of_verdict))]
-/// The report of moves under a limit of positions.
-fn moves_report<R: Threads + Sync, P: Progress>(
+/// What is judged of moves, under a limit of positions.
+fn judge_moves<R: Threads + Sync, P: Progress>(
     rt: &R,
     alloc: Global,
     level: &Level,
     moves: Moves,
     request: ProveRequest,
     progress: &mut P,
-) -> Result<Report, AllocError>
+) -> Result<Judgement, AllocError>
     requires { length moves ≤ MAX_MOVES }
-    ensures { IfOk result (λ report. (v : Verdict) × IsVerdict level.now moves v ×
-        IsProvedBy request.moves request.limit level.now v report) }
+    ensures { IfOk result (λ judgement. IsJudged request.moves request.limit level.now moves judgement) }
 {
     let verdict = replay(alloc, level, &moves)?;
     match verdict {
@@ -348,36 +227,78 @@ fn moves_report<R: Threads + Sync, P: Progress>(
                 pushes,
                 moves: count,
             };
-            judged(rt, alloc, level, given, moves, request, progress)
+            if level.boxes() > MAX_BOXES {
+                return Ok(Judgement::TooManyBoxes(given));
+            }
+            let standing = standing_of(rt, alloc, level, given, moves, request, progress)?;
+            Ok(Judgement::Compared { given, standing })
         }
-        Verdict::Unsolved { .. } => verdict_report(alloc, verdict),
-        Verdict::Blocked { .. } => verdict_report(alloc, verdict),
-        Verdict::WrongCase { .. } => verdict_report(alloc, verdict),
+        Verdict::Unsolved { .. } => Ok(Judgement::Failing(verdict)),
+        Verdict::Blocked { .. } => Ok(Judgement::Failing(verdict)),
+        Verdict::WrongCase { .. } => Ok(Judgement::Failing(verdict)),
+    }
+}
+
+/// What is judged of a text with a fault.
+fn bad_text(fault: LurdFault) -> Result<Judgement, AllocError>
+    ensures text { IfOk result (λ judgement. judgement ≡ Judgement.BadText fault) }
+    ensures memory { OnOk result (fault ≢ LurdFault.OutOfMemory) }
+{
+    match fault {
+        LurdFault::BadByte { .. } => Ok(Judgement::BadText(fault)),
+        LurdFault::BadCount { .. } => Ok(Judgement::BadText(fault)),
+        LurdFault::TooManyMoves => Ok(Judgement::BadText(fault)),
+        LurdFault::OutOfMemory => Err(AllocError),
     }
 }
 
 #[tactic(auto, using(crate::proofs::Judging::of_text, crate::proofs::Judging::of_fault))]
-/// The report of proving a text on a level under a limit of positions.
-fn prove_report<R: Threads + Sync, P: Progress>(
+/// What is judged of a text on a level, under a limit of positions.
+fn judge_text<R: Threads + Sync, P: Progress>(
     rt: &R,
     alloc: Global,
     level: &Level,
     solution: &[u8],
     request: ProveRequest,
     progress: &mut P,
-) -> Result<Report, AllocError>
-    ensures { IfOk result (λ report. IsProofOf request.moves request.limit level.now solution.now report) }
+) -> Result<Judgement, AllocError>
+    ensures { IfOk result (λ judgement. IsJudgement request.moves request.limit level.now solution.now judgement) }
 {
     match parse(alloc, solution) {
-        Ok(moves) => moves_report(rt, alloc, level, moves, request, progress),
-        Err(fault) => text_fault_report(alloc, fault),
+        Ok(moves) => judge_moves(rt, alloc, level, moves, request, progress),
+        Err(fault) => bad_text(fault),
     }
 }
 
 #[tactic(auto, using(crate::proofs::Reading::stops_after))]
+/// What is judged of the solution of a level, under a limit of positions. It reads the solution to its end if the level
+/// is lawful, and not otherwise.
+pub(crate) fn judge_level<R: Threads + Sync, T: Source, P: Progress>(
+    rt: &R,
+    alloc: Global,
+    board: &Result<Level, LevelFault>,
+    request: ProveRequest,
+    solution: &mut T,
+    progress: &mut P,
+) -> Result<Judgement, RunFault>
+    ensures ok { IfOk result (λ judgement. (text : Option (List ℕ)) ×
+        ReadsIfSome (T.seen solution.old) (T.seen solution.new) text
+        × IsJudgementOn request.moves request.limit board.now text judgement) }
+    ensures err { IfErr result (λ fault. (level : Board) × (board.now ≡ Ok level) ×
+        Stops (T.seen solution.old) (T.seen solution.new) fault) }
+{
+    match board {
+        Ok(level) => {
+            let text = read_whole(alloc, solution)?;
+            Ok(judge_text(rt, alloc, level, text.as_slice(), request, progress)?)
+        }
+        Err(fault) => Ok(Judgement::Faulty(*fault)),
+    }
+}
+
 /// The report of proving on level N under a limit of positions. It reads the solution to its end if the level is
 /// lawful, and not otherwise.
-pub(crate) fn prove_level<R: Threads + Sync, T: Source, P: Progress>(
+fn prove_level<R: Threads + Sync, T: Source, P: Progress>(
     rt: &R,
     alloc: Global,
     chosen: &Chosen,
@@ -395,10 +316,9 @@ pub(crate) fn prove_level<R: Threads + Sync, T: Source, P: Progress>(
 {
     match chosen {
         None => Ok(no_level(alloc, request.number)?),
-        Some(Err(fault)) => Ok(fault_report(alloc, *fault)?),
-        Some(Ok(level)) => {
-            let text = read_whole(alloc, solution)?;
-            Ok(prove_report(rt, alloc, level, text.as_slice(), request, progress)?)
+        Some(board) => {
+            let judgement = judge_level(rt, alloc, board, request, solution, progress)?;
+            Ok(judgement_report(alloc, &judgement, request.limit)?)
         }
     }
 }

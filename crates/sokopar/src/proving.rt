@@ -66,12 +66,13 @@ pub struct ProveRequest {
     pub lurd: bool,
 }
 
-/// The first and the last level for [`run_prove_collection`], counted from 1, and the settings of each search, as for
-/// [`run_prove`].
+/// The first and the last level for [`run_prove_collection`], counted from 1, whether it writes a table, and the settings
+/// of each search, as for [`run_prove`].
 #[derive(Clone, Copy, PartialEq, Eq, Debug)]
 pub struct SolutionsRequest {
     pub from: u32,
     pub to: u32,
+    pub table: bool,
     pub workers: u8,
     pub limit: u32,
     pub moves: bool,
@@ -178,6 +179,8 @@ pub fn run_prove<R: Threads + Sync, S: Source, T: Source, P: Watch, K: Sink>(
 /// memory have a line, too. Returns the exit status: 0 if all solutions are optimal, else 5 if a search ran out of
 /// memory, else 3 if a solution cannot be read, else 4 if a search ended at its limit, else 1. If no level has a number
 /// of at least `from`, it writes that there is no such level, and returns 1.
+///
+/// A table has a head line, a line with the columns of each of these levels, and no totals.
 ///
 /// It fails as [`run_best_collection`] does.
 pub fn run_prove_collection<R: Threads + Sync, S: Source, D: Folder, P: Watch, K: Sink>(

@@ -7,8 +7,6 @@ use grid::Square;
 /// What is found against a level.
 #[derive(Drop)]
 pub(crate) enum Remark {
-    /// It has too many rows or columns.
-    TooLarge,
     /// It has no player or several: the squares of all.
     Players(Vec<Square>),
     /// It has no box, or not as many as goals: the squares of all boxes and goals.

@@ -1,6 +1,6 @@
 ghost use Rattle.std.specs.Prelude.{◌≡◌, ◌≢◌, ◌++◌, ◌⊎◌, ◌≤◌, ℕ, List, length, Option, OnOk, IfOk, IfErr};
-ghost use Rattle.sokopar.specs.Report.{counts_words, verdict_report, text_fault_report, IsReplayOf, ReportsOnText};
-ghost use Rattle.sokopar.specs.Report.{IsReplayReport};
+ghost use Rattle.sokopar.specs.Report.{counts_words, text_fault_report, text_fault_words, verdict_report};
+ghost use Rattle.sokopar.specs.Report.{verdict_status, verdict_words, IsReplayOf, IsReplayReport, ReportsOnText};
 ghost use Rattle.sokopar.specs.Runs.{ReadsIfSome, Stops};
 ghost use Rattle.grid.specs.Board.{Board};
 ghost use Rattle.sokopar.specs.Listing.{IsLevelOf};
@@ -27,55 +27,78 @@ pub(crate) fn put_counts(text: &mut Text, pushes: usize, moves: usize) -> Result
     text.put(b" moves")
 }
 
-/// The report of a verdict.
-pub(crate) fn verdict_report(alloc: Global, verdict: Verdict) -> Result<Report, AllocError>
-    ensures { IfOk result (λ report. report ≡ verdict_report verdict) }
+/// Appends a verdict in words.
+pub(crate) fn put_verdict(text: &mut Text, verdict: Verdict) -> Result<(), AllocError>
+    ensures { OnOk result (text.new ≡ text.old ++ verdict_words verdict) }
 {
-    let mut text = Text::new(alloc);
-    let status = match verdict {
+    match verdict {
         Verdict::Solved { pushes, moves } => {
             text.put(b"solved ")?;
-            put_counts(&mut text, pushes, moves)?;
-            0
+            put_counts(text, pushes, moves)
         }
         Verdict::Unsolved { pushes, moves } => {
             text.put(b"unsolved ")?;
-            put_counts(&mut text, pushes, moves)?;
-            1
+            put_counts(text, pushes, moves)
         }
         Verdict::Blocked { at } => {
             text.put(b"blocked at ")?;
-            text.put_number(at)?;
-            1
+            text.put_number(at)
         }
         Verdict::WrongCase { at } => {
             text.put(b"wrong case at ")?;
-            text.put_number(at)?;
-            1
+            text.put_number(at)
         }
-    };
+    }
+}
+
+/// The exit status of a verdict.
+fn status_of(verdict: Verdict) -> u8
+    ensures { result ≡ verdict_status verdict }
+{
+    match verdict {
+        Verdict::Solved { .. } => 0,
+        Verdict::Unsolved { .. } => 1,
+        Verdict::Blocked { .. } => 1,
+        Verdict::WrongCase { .. } => 1,
+    }
+}
+
+/// The report of a verdict.
+fn verdict_report(alloc: Global, verdict: Verdict) -> Result<Report, AllocError>
+    ensures { IfOk result (λ report. report ≡ verdict_report verdict) }
+{
+    let mut text = Text::new(alloc);
+    put_verdict(&mut text, verdict)?;
     text.put(b"\n")?;
-    Ok(Report::new(text, status))
+    Ok(Report::new(text, status_of(verdict)))
+}
+
+/// Appends a fault in the text of a solution in words. Fails if the fault is out of memory.
+pub(crate) fn put_text_fault(text: &mut Text, fault: LurdFault) -> Result<(), AllocError>
+    ensures words { OnOk result (text.new ≡ text.old ++ text_fault_words fault) }
+    ensures memory { OnOk result (fault ≢ LurdFault.OutOfMemory) }
+{
+    match fault {
+        LurdFault::BadByte { at } => {
+            text.put(b"bad byte at ")?;
+            text.put_number(at)
+        }
+        LurdFault::BadCount { at } => {
+            text.put(b"bad count at ")?;
+            text.put_number(at)
+        }
+        LurdFault::TooManyMoves => text.put(b"too many moves"),
+        LurdFault::OutOfMemory => Err(AllocError),
+    }
 }
 
 /// The report of a fault in the text of a solution.
-pub(crate) fn text_fault_report(alloc: Global, fault: LurdFault) -> Result<Report, AllocError>
+fn text_fault_report(alloc: Global, fault: LurdFault) -> Result<Report, AllocError>
     ensures report { IfOk result (λ report. report ≡ text_fault_report fault) }
     ensures memory { OnOk result (fault ≢ LurdFault.OutOfMemory) }
 {
     let mut text = Text::new(alloc);
-    match fault {
-        LurdFault::BadByte { at } => {
-            text.put(b"bad byte at ")?;
-            text.put_number(at)?;
-        }
-        LurdFault::BadCount { at } => {
-            text.put(b"bad count at ")?;
-            text.put_number(at)?;
-        }
-        LurdFault::TooManyMoves => text.put(b"too many moves")?,
-        LurdFault::OutOfMemory => return Err(AllocError),
-    }
+    put_text_fault(&mut text, fault)?;
     text.put(b"\n")?;
     Ok(Report::new(text, 1))
 }

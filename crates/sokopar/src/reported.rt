@@ -1,3 +1,6 @@
+ghost use Rattle.std.specs.Prelude.{◌≡◌};
+ghost use Rattle.sokopar.specs.Levels.{kind_status};
+
 use crate::text::Text;
 
 /// How the totals count a level.
@@ -19,6 +22,24 @@ pub(crate) enum Kind {
     CannotRead,
     /// There is no given solution.
     Missing,
+}
+
+impl Kind {
+    /// The exit status of one level.
+    pub(crate) fn status(self) -> u8
+        ensures { result ≡ kind_status self }
+    {
+        match self {
+            Kind::Optimal => 0,
+            Kind::Unsolved => 1,
+            Kind::Beaten => 1,
+            Kind::Open => 4,
+            Kind::OutOfMemory => 5,
+            Kind::NotJudged => 1,
+            Kind::CannotRead => 3,
+            Kind::Missing => 0,
+        }
+    }
 }
 
 /// What a report has of a level: its line, and how the totals count it.

@@ -1,14 +1,14 @@
 //! The sentences of remarks, and the lines of broken rows.
-ghost use Rattle.std.specs.Prelude.{◌≡◌, ℕ, ◌+◌, ◌/◌, ◌%◌, ◌≤◌, ◌++◌, List, OnOk, codes, decimal, flat_map, slice_get};
-ghost use Rattle.sokopar.specs.Explaining.{broken_line, byte_words, cause_words, more_words, parts_words, place_words};
-ghost use Rattle.sokopar.specs.Explaining.{remark_words, sentence, sentence_at, sentences};
+ghost use Rattle.std.specs.Prelude.{◌≡◌, ℕ, ◌+◌, ◌/◌, ◌%◌, ◌≤◌, ◌++◌, [], List, OnOk, cond, codes, decimal, flat_map, slice_get};
+ghost use Rattle.sokopar.specs.Explaining.{broken_line, byte_words, cause_words, excess_words, more_words};
+ghost use Rattle.sokopar.specs.Explaining.{place_words, remark_words, sentence, sentence_at, sentences};
 ghost use Rattle.xsb.specs.declared.places.RowPlace.{RowPlace};
 
 use crate::remark::Remark;
 use crate::text::Text;
-use grid::Square;
+use grid::{MAX_COLS, MAX_ROWS, Square};
 use std::alloc::AllocError;
-use xsb::{BoardRows, BrokenRow, Cause, RowPlace};
+use xsb::{BoardRows, BrokenRow, Cause, Excess, RowPlace};
 
 /// The most squares that sentences of a kind list.
 pub(crate) const MOST_PLACES: usize = 20;
@@ -126,12 +126,41 @@ fn put_sentences(
     put_more(text, others.len())
 }
 
-/// Appends that a level is too large.
-pub(crate) fn put_too_large(text: &mut Text) -> Result<(), AllocError>
-    ensures { (cols : ℕ) (places : List RowPlace) →
-        OnOk result (text.new ≡ text.old ++ remark_words cols places Remark.TooLarge) }
+/// Appends where a board is too large.
+pub(crate) fn put_excess(text: &mut Text, excess: Excess) -> Result<(), AllocError>
+    ensures { OnOk result (text.new ≡ text.old ++ excess_words excess) }
 {
-    put_sentence(text, b"it has more rows or columns than a level may have")
+    match excess {
+        Excess::Rows(line) => put_tall(text, MAX_ROWS + 1, line),
+        Excess::Columns(line) => put_wide(text, line),
+    }
+}
+
+#[tactic(auto, unfolding(crate::specs::Explaining::sentence))]
+/// Appends the line of a row that is too many.
+fn put_tall(text: &mut Text, row: usize, line: u32) -> Result<(), AllocError>
+    ensures { OnOk result (text.new ≡ text.old ++
+        sentence (codes "row " ++ decimal row ++ codes " is at line " ++ decimal line)) }
+{
+    text.put(b"  ")?;
+    text.put(b"row ")?;
+    text.put_number(row)?;
+    text.put(b" is at line ")?;
+    text.put_number(line as usize)?;
+    text.put(b"\n")
+}
+
+#[tactic(auto, unfolding(crate::specs::Explaining::sentence))]
+/// Appends the line of a row that is too long.
+fn put_wide(text: &mut Text, line: u32) -> Result<(), AllocError>
+    ensures { OnOk result (text.new ≡ text.old ++ excess_words (Excess.Columns line)) }
+{
+    text.put(b"  ")?;
+    text.put(b"line ")?;
+    text.put_number(line as usize)?;
+    text.put(b" has a row with more than ")?;
+    text.put_number(MAX_COLS)?;
+    text.put(b" columns\n")
 }
 
 /// Appends that some boxes are frozen.
@@ -169,7 +198,6 @@ pub(crate) fn put_remark(
     ensures { OnOk result (text.new ≡ text.old ++ remark_words rows.now.cols rows.now.places.items remark.now) }
 {
     match remark {
-        Remark::TooLarge => put_too_large(text),
         Remark::Players(squares) => put_sentences(text, b"a player is", rows, squares),
         Remark::Unequal { boxes, goals } => {
             put_sentences(text, b"a box is", rows, boxes)?;
@@ -232,7 +260,8 @@ fn put_break(text: &mut Text, row: BrokenRow) -> Result<(), AllocError>
 
 /// Appends whether nothing else parts two boards.
 fn put_parts(text: &mut Text, parts: bool) -> Result<(), AllocError>
-    ensures { OnOk result (text.new ≡ text.old ++ parts_words parts) }
+    ensures { OnOk result
+        (text.new ≡ text.old ++ cond parts (codes "; no other line is between two boards") []) }
 {
     if parts {
         return text.put(b"; no other line is between two boards");

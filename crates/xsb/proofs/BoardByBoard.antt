@@ -80,6 +80,7 @@ HasRows-read {old} {new} {stretch} is =
       count = sym is.count;
       rows_are = is.read.rows_are;
       size = is.read.size_is;
+      past = is.past;
     }
 
 -- after the lines of a board
@@ -163,6 +164,7 @@ ReadsBoard-copy lines same count is = record {
   first_line = is.first_line ∙ count;
   count = is.count;
   from = is.from ∙ same;
+  past = is.past;
   ends = is.ends;
 }
 

@@ -7,22 +7,25 @@ use Rattle.std.proofs.lemmas.List.{append-nil}
 use Rattle.std.proofs.lemmas.List.Concat.{flat_map-append}
 use Rattle.grid.specs.declared.cell.Cell.{Cell}
 use Rattle.bstr.specs.declared.iters.LinesWithTerminator.{LinesWithTerminator}
+use Rattle.xsb.specs.declared.boards.Beyond.{Beyond}
 use Rattle.xsb.specs.declared.lines.Lines.{Lines}
 use Rattle.xsb.specs.declared.names.Gap.{Gap}
 use Rattle.xsb.specs.declared.sizes.Size.{Size}
 use Rattle.xsb.specs.Rows.{IsRowLine, IsTextLine}
 use Rattle.xsb.specs.inside.Reading.{cut_line, cut_lines, IsSize}
 use Rattle.xsb.specs.inside.Gaps.{IsGap, ReadsTexts, ReadsGap, BeginsBoard}
-use Rattle.xsb.specs.inside.Stretches.{AreRowLines, ReadsRows}
+use Rattle.xsb.specs.inside.Stretches.{ArePast, AreRowLines, ReadsRows, beyond_with}
+use Rattle.xsb.proofs.PastLimits.{ArePast-more}
 use Rattle.xsb.proofs.RowLines.{AllZip-last}
 
 -- what the reading of a board has read so far
-pub record IsRead (old new : Lines) (size : Size) (first_line : ℕ) (first : LinesWithTerminator) : Type 0 where
+pub record IsRead (old new : Lines) (size : Size) (beyond : Beyond) (first_line : ℕ) (first : LinesWithTerminator) : Type 0 where
   pub lines : List (List ℕ)
   pub rows : List (List Cell)
   pub read : ReadsRows old new size lines rows
   pub number : first_line ≡ old.number
   pub first_is : first ≡ old.rest
+  pub past : ArePast lines rows first_line beyond
 
 pub drop-zero : {A : Type 0} (xs : List A) → drop 0 xs ≡ xs
 drop-zero [] = refl
@@ -83,13 +86,15 @@ AreRowLines-more lines rows others line is row = record {
       sym (flat_map-append (λ r. r) is.by_line (others ∷ []));
 }
 
-pub IsRead-more : {old mid : Lines} {size : Size} {first_line : ℕ} {first : LinesWithTerminator} (new : Lines) (more fresh : Size) (line : List ℕ) →
-    IsRead old mid size first_line first →
+pub IsRead-more : {old mid : Lines} {size : Size} {beyond : Beyond} {first_line : ℕ} {first : LinesWithTerminator} (new : Lines) (more fresh : Size)
+    (onward : Beyond) (line : List ℕ) → IsRead old mid size beyond first_line first →
     (raw : List ℕ) × (left : List (List ℕ)) × (mid.rest ≡ raw ∷ left) × (line ≡ cut_line raw) → (rows : List (List Cell)) × IsRowLine line rows ×
     IsSize more rows → new.rest ≡ drop 1 mid.rest → new.number ≡ mid.number + 1 →
-    ((rows others : List (List Cell)) → IsSize size rows → IsSize more others → IsSize fresh (rows ++ others)) → IsRead old new fresh first_line first
-IsRead-more {old} {mid} {size} {first_line} {first} new more fresh line is next row e f sizes =
-    let long = length-append is.lines (line ∷ []) in let was = is.read.number in
+    ((rows others : List (List Cell)) → IsSize size rows → IsSize more others → IsSize fresh (rows ++ others)) →
+    onward ≡ beyond_with beyond fresh mid.number → IsRead old new fresh onward first_line first
+IsRead-more {old} {mid} {size} {beyond} {first_line} {first} new more fresh onward line is next row e f sizes g =
+    let long = length-append is.lines (line ∷ []) in let was = is.read.number in let begun = is.number in
+    let sized = sizes is.rows row.0 is.read.size_is row.2 in
     record {
       lines = is.lines ++ line ∷ [];
       rows = is.rows ++ row.0;
@@ -98,10 +103,11 @@ IsRead-more {old} {mid} {size} {first_line} {first} new more fresh line is next 
             sym (append_assoc is.lines (line ∷ []) (cut_lines new.rest));
         number = omega arith;
         rows_are = AreRowLines-more is.lines is.rows row.0 line is.read.rows_are row.1;
-        size_is = sizes is.rows row.0 is.read.size_is row.2;
+        size_is = sized;
       };
       number = is.number;
       first_is = is.first_is;
+      past = ArePast-more is.lines is.rows first_line mid.number beyond onward fresh line row.0 is.read.rows_are row.1 (omega arith) sized g is.past;
     }
 
 -- what the size of a line says of it

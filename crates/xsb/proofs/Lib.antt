@@ -4,6 +4,7 @@ pub mod FirstItem
 pub mod CutEnds
 pub mod RowItems
 pub mod RowLines
+pub mod PastLimits
 pub mod LineFeeds
 pub mod GapNames
 pub mod GapsAndBoards

@@ -1,29 +1,27 @@
 -- The places of the rows of a board, line by line.
-use Rattle.std.proofs.Common.{◌≡◌, ℕ, zero, suc, ◌+◌, ◌-◌, ◌<◌, ◌≤◌, Bool, List, [], ◌∷◌, ◌++◌, length, take, replicate, flat_map, refl, sym, ap, ◌∙◌, arith, length-append}
-use Rattle.std.proofs.Common.{append_assoc, subst, inl, inr, Option, Some, None, Vec, Global}
-use Rattle.std.specs.List.{AllZip}
+use Rattle.std.proofs.Common.{◌≡◌, ℕ, zero, suc, ◌+◌, ◌-◌, ◌<◌, ◌≤◌, Bool, List, [], ◌∷◌, ◌++◌, length, take, replicate, flat_map, refl, sym, ap, ◌∙◌, arith}
+use Rattle.std.proofs.Common.{append_assoc, subst, Some, None, Result, Vec, Global}
 use Rattle.std.proofs.Math.Seq.{take-append_seam}
 use Rattle.std.proofs.lemmas.List.{append-nil}
-use Rattle.std.proofs.lemmas.Bool.{cases_lt}
+use Rattle.std.proofs.lemmas.Nat.{mul-le}
 use Rattle.grid.specs.declared.cell.Cell.{Cell}
 use Rattle.grid.specs.declared.limits.TheConstants.{MAX_ROWS, MAX_COLS}
-use Rattle.grid.specs.Lawful.{row_count}
 use Rattle.xsb.specs.Boards.{board_of, cols_of, padded}
 use Rattle.xsb.specs.Collection.{Found}
-use Rattle.xsb.specs.Lines.{lines_of_text}
-use Rattle.xsb.specs.Places.{IsBoardAt, is_plain, row_places}
-use Rattle.xsb.specs.Rows.{pieces_of, IsTextLine}
+use Rattle.xsb.specs.Places.{IsExcess, IsFirstPast, is_plain, row_places}
+use Rattle.xsb.specs.Rows.{pieces_of}
 use Rattle.xsb.specs.declared.boards.Stretch.{Stretch}
 use Rattle.xsb.specs.declared.lines.Lines.{Lines}
 use Rattle.xsb.specs.declared.places.BoardRows.{BoardRows}
+use Rattle.xsb.specs.declared.places.Excess.{Excess}
+use Rattle.xsb.specs.declared.places.Excess.TheVariants.{Rows, Columns}
 use Rattle.xsb.specs.declared.places.RowPlace.{RowPlace}
 use Rattle.xsb.specs.inside.Cursors.{IsAt}
 use Rattle.xsb.specs.inside.Gaps.{BeginsGap}
 use Rattle.xsb.specs.inside.Reading.{cut_line, cut_lines}
-use Rattle.xsb.specs.inside.Sources.{IsTaken, HasRowsFor, HasSource}
-use Rattle.xsb.specs.inside.Stretches.{HasRows, ReadsBoard}
-use Rattle.xsb.proofs.BoardByBoard.{HasRows-read}
-use Rattle.xsb.proofs.Judging.{HasRows-cols, cols-exact, row_count-board_of, same-board}
+use Rattle.xsb.specs.inside.Sources.{AreRowsOf, HasRowsFor, HasSource, IsTaken}
+use Rattle.xsb.specs.inside.Stretches.{HasRows, IsPastAt}
+use Rattle.xsb.proofs.Judging.{HasRows-cols, cols-exact, length-padded_rows, same-board}
 
 -- the places so far, and those of the lines that are left, are all places
 pub record Placing (all : List RowPlace) (count k number : ℕ) (rest : List (List ℕ)) (places : List RowPlace) : Type 0 where
@@ -70,36 +68,59 @@ Placing-end {all} {count} {k} {number} {rest} {places} is e =
     take-nil zero = refl
     take-nil (suc n) = refl
 
-pub rows-tall : {stretch : Stretch} (rows : List (List Cell)) (places : List RowPlace) → HasRows stretch rows → MAX_ROWS < stretch.size.rows →
-    HasRowsFor (board_of rows) places None
-rows-tall {stretch} rows places has tall =
-    let n = has.size.row_count in let many = row_count-board_of rows (HasRows-cols has) in inl (omega arith)
-
-pub rows-wide : {stretch : Stretch} (rows : List (List Cell)) (places : List RowPlace) → HasRows stretch rows → MAX_COLS < stretch.size.cols →
-    HasRowsFor (board_of rows) places None
-unfolding board_of
-rows-wide {stretch} rows places has wide = let n = has.size.col_count in inr (omega arith)
-
-pub rows-made : {stretch : Stretch} {all : List RowPlace} (rows : List (List Cell)) (cells : Vec Cell Global) (places : Vec RowPlace Global) → HasRows stretch rows → stretch.size.cols ≤ MAX_COLS →
-    (cols_of rows ≤ stretch.size.cols → cells.items ≡ flat_map (padded stretch.size.cols) rows) → places.items ≡ all →
-    HasRowsFor (board_of rows) all (Some (record { cols = stretch.size.cols; cells = cells; places = places }))
-rows-made {stretch} {all} rows cells places has few made are =
-    let exact = cols-exact rows has few in let some = HasRows-cols has in
-    (sym (same-board rows cells.items has few (made (omega arith))), sym are, omega arith)
-
 take-front : (xs ys : List (List ℕ)) (n : ℕ) → n ≡ length xs → take n (xs ++ ys) ≡ xs
 take-front xs ys n e = ap (λ k. take k (xs ++ ys)) e ∙ take-append_seam xs ys
 
+-- the lines of a stretch
+lines-of : {stretch : Stretch} {rows : List (List Cell)} → (has : HasRows stretch rows) → has.lines ≡ take stretch.count (cut_lines stretch.lines)
+lines-of {stretch} has = sym (ap (take stretch.count) has.whole ∙ take-front has.lines has.after stretch.count (sym has.count))
+
+-- its rows are too many, or too long
+pub rows-tall : {stretch : Stretch} (rows : List (List Cell)) (n : ℕ) → HasRows stretch rows → stretch.beyond.rows ≡ Some n →
+    IsExcess (take stretch.count (cut_lines stretch.lines)) stretch.first_line (Rows n)
+rows-tall {stretch} rows n has is =
+    subst (λ l. IsFirstPast length MAX_ROWS l stretch.first_line n) (lines-of has)
+    (subst (λ o. IsPastAt length MAX_ROWS has.lines rows stretch.first_line o) is has.past.tall)
+
+pub rows-wide : {stretch : Stretch} (rows : List (List Cell)) (n : ℕ) → HasRows stretch rows → stretch.beyond.cols ≡ Some n →
+    IsExcess (take stretch.count (cut_lines stretch.lines)) stretch.first_line (Columns n)
+rows-wide {stretch} rows n has is =
+    subst (λ l. IsFirstPast cols_of MAX_COLS l stretch.first_line n) (lines-of has)
+    (subst (λ o. IsPastAt cols_of MAX_COLS has.lines rows stretch.first_line o) is has.past.wide)
+
+-- or they are within the limits
+pub rows-made : {stretch : Stretch} (rows : List (List Cell)) (cells : Vec Cell Global) (places : Vec RowPlace Global) → HasRows stretch rows →
+    stretch.beyond.rows ≡ None → stretch.beyond.cols ≡ None →
+    (cols_of rows ≤ stretch.size.cols → cells.items ≡ flat_map (padded stretch.size.cols) rows) →
+    places.items ≡ row_places stretch.first_line (take stretch.count (cut_lines stretch.lines)) →
+    AreRowsOf (take stretch.count (cut_lines stretch.lines)) stretch.first_line (board_of rows)
+    (record { cols = stretch.size.cols; cells = cells; places = places })
+rows-made {stretch} rows cells places has short narrow made are =
+    let few : length rows ≤ MAX_ROWS = subst (λ o. IsPastAt length MAX_ROWS has.lines rows stretch.first_line o) short has.past.tall in
+    let thin : cols_of rows ≤ MAX_COLS = subst (λ o. IsPastAt cols_of MAX_COLS has.lines rows stretch.first_line o) narrow has.past.wide in
+    let sized = has.size.col_count in
+    let small : stretch.size.cols ≤ MAX_COLS = omega arith in
+    let exact = cols-exact rows has small in let some = HasRows-cols has in
+    let items = made (omega arith) in
+    let long = ap length items ∙ length-padded_rows stretch.size.cols rows (omega arith) in
+    let most = mul-le (length rows) stretch.size.cols 255 255 few small in
+    record {
+      board_is = sym (same-board rows cells.items has small items);
+      places_are = sym are;
+      columns = omega arith;
+      wide = small;
+      bound = omega arith;
+    }
+
 -- the source of a board that was taken
-pub HasSource-taken : {old new : Lines} {found : Found} {stretch : Stretch} (bytes : List ℕ) → IsAt bytes old → (is : IsTaken old new found stretch) (rows : Option BoardRows) →
-    HasRowsFor (board_of is.read.rows) (row_places stretch.first_line (take stretch.count (cut_lines stretch.lines))) rows → HasSource bytes found rows
+pub HasSource-taken : {old new : Lines} {found : Found} {stretch : Stretch} (bytes : List ℕ) → IsAt bytes old → (is : IsTaken old new found stretch)
+    (rows : Result BoardRows Excess) → HasRowsFor (take stretch.count (cut_lines stretch.lines)) stretch.first_line (board_of is.read.rows) rows →
+    HasSource bytes found rows
 HasSource-taken {old} {new} {found} {stretch} bytes here is rows for_rows =
     let read = is.read in let after = cut_lines is.mid.rest in
     let lines : take stretch.count (cut_lines stretch.lines) ≡ read.lines =
     ap (λ l. take stretch.count l) (ap cut_lines read.from ∙ read.read.whole) ∙ take-front read.lines after stretch.count read.count in
-    let first : stretch.first_line ≡ found.first_line = read.first_line ∙ sym is.first_line in
-    let places : row_places stretch.first_line (take stretch.count (cut_lines stretch.lines)) ≡ row_places found.first_line read.lines =
-    ap (λ l. row_places stretch.first_line l) lines ∙ ap (λ n. row_places n read.lines) first in (
+    let first : stretch.first_line ≡ found.first_line = read.first_line ∙ sym is.first_line in (
       row_places found.first_line read.lines,
       record {
         before = here.before;
@@ -114,6 +135,7 @@ HasSource-taken {old} {new} {found} {stretch} bytes here is rows for_rows =
         made = is.board ∙ ap board_of read.read.rows_are.all;
         places_are = refl;
       },
-      subst (λ ps. HasRowsFor found.board ps rows) places
-          (subst (λ b. HasRowsFor b (row_places stretch.first_line (take stretch.count (cut_lines stretch.lines))) rows) (sym is.board) for_rows),
+      subst (λ b. HasRowsFor read.lines found.first_line b rows) (sym is.board)
+          (subst (λ n. HasRowsFor read.lines n (board_of read.rows) rows) first
+          (subst (λ l. HasRowsFor l stretch.first_line (board_of read.rows) rows) lines for_rows)),
     )

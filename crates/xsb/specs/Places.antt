@@ -1,12 +1,15 @@
 -- Where the rows of a board are in a collection.
-use Rattle.std.specs.Prelude.{◌≡◌, ℕ, suc, ◌-◌, ◌<◌, Bool, ◌==◌, ◌||◌, not, List, [], ◌∷◌, ◌++◌, length, replicate, flat_map}
+use Rattle.std.specs.Prelude.{◌≡◌, ℕ, suc, ◌+◌, ◌-◌, ◌<◌, ◌≤◌, Bool, ◌==◌, ◌||◌, not, List, [], ◌∷◌, ◌++◌, length, replicate, flat_map}
 use Rattle.std.specs.Prelude.{slice_get, Some}
 use Rattle.std.specs.Char.{is_ascii_digit}
 use Rattle.std.specs.List.{AllZip, list_any}
 use Rattle.grid.specs.Board.{Board}
 use Rattle.grid.specs.declared.cell.Cell.{Cell}
+use Rattle.grid.specs.declared.limits.TheConstants.{MAX_ROWS, MAX_COLS}
+use Rattle.xsb.specs.declared.places.Excess.{Excess}
+use Rattle.xsb.specs.declared.places.Excess.TheVariants.{Rows, Columns}
 use Rattle.xsb.specs.declared.places.RowPlace.{RowPlace}
-use Rattle.xsb.specs.Boards.{board_of}
+use Rattle.xsb.specs.Boards.{board_of, cols_of}
 use Rattle.xsb.specs.Lines.{lines_of_text}
 use Rattle.xsb.specs.Rows.{IsRowLine, IsTextLine, pieces_of}
 
@@ -43,3 +46,23 @@ pub record IsBoardAt (bytes : List ℕ) (first_line : ℕ) (board : Board) (plac
   pub each : AllZip IsRowLine lines rows
   pub made : board ≡ board_of (flat_map (λ r. r) rows)
   pub places_are : places ≡ row_places first_line lines
+
+-- line n is the first up to which the rows of a board have more than `most` of something, rows or columns; the lines of
+-- the board begin at line `first`
+pub record IsFirstPast (count : List (List Cell) → ℕ) (most : ℕ) (lines : List (List ℕ)) (first n : ℕ) : Type 0 where
+  pub before : List (List ℕ)
+  pub line : List ℕ
+  pub after : List (List ℕ)
+  pub whole : lines ≡ before ++ line ∷ after
+  pub number : n ≡ first + length before
+  pub rows : List (List (List Cell))
+  pub each : AllZip IsRowLine before rows
+  pub few : count (flat_map (λ r. r) rows) ≤ most
+  pub more : List (List Cell)
+  pub next : IsRowLine line more
+  pub many : most < count (flat_map (λ r. r) rows ++ more)
+
+-- where a board of these lines is too large
+abbrev pub IsExcess : List (List ℕ) → ℕ → Excess → Type 0
+IsExcess lines first (Rows n) = IsFirstPast length MAX_ROWS lines first n
+IsExcess lines first (Columns n) = IsFirstPast cols_of MAX_COLS lines first n

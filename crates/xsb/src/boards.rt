@@ -3,13 +3,42 @@ ghost use Rattle.std.specs.Prelude.{◌≡◌, ◌≢◌, List, MatchOption, Mat
 ghost use Rattle.grid.specs.declared.cell.Cell.{Cell};
 ghost use Rattle.xsb.specs.Boards.{board_of};
 ghost use Rattle.xsb.specs.Collection.{IsJudged};
-ghost use Rattle.xsb.specs.inside.Stretches.{AreCellsOf, HasRows, ReadsBoard, ReadsNoBoard};
+ghost use Rattle.xsb.specs.inside.Stretches.{AreCellsOf, HasRows, ReadsBoard, ReadsNoBoard, beyond_with, first_of};
 
 use crate::lines::{Lines, cut_line};
 use crate::sizes::{Size, line_size, push_line};
 use bstr::LinesWithTerminator;
 use grid::{Board, Cell, LevelFault, MAX_COLS, MAX_ROWS};
 use std::alloc::{AllocError, Global};
+
+/// The first lines up to which a board has too many rows, or a row that is too long.
+#[derive(Clone, Copy)]
+pub(crate) struct Beyond {
+    pub(crate) rows: Option<u32>,
+    pub(crate) cols: Option<u32>,
+}
+
+impl Beyond {
+    /// The same after a line with this number, up to which the rows have this size.
+    fn with(self, size: Size, number: u32) -> Beyond
+        ensures { result ≡ beyond_with self size number }
+    {
+        Beyond {
+            rows: first_of(self.rows, size.rows > MAX_ROWS, number),
+            cols: first_of(self.cols, size.cols > MAX_COLS, number),
+        }
+    }
+}
+
+/// A line that was found, or else this one if it is found.
+fn first_of(line: Option<u32>, is_found: bool, number: u32) -> Option<u32>
+    ensures { result ≡ first_of line is_found number }
+{
+    match line {
+        Some(line) => Some(line),
+        None => { if is_found { Some(number) } else { None } }
+    }
+}
 
 /// The lines of a board, before they are made into cells.
 #[derive(Drop)]
@@ -22,6 +51,8 @@ pub(crate) struct Stretch<'a> {
     pub(crate) count: u32,
     /// The size of the rows.
     pub(crate) size: Size,
+    /// The lines at which the board is too large.
+    pub(crate) beyond: Beyond,
 }
 
 /// Reads the next row lines, up to a text line or the end. `None` if the next line is no row line.
@@ -31,11 +62,16 @@ pub(crate) fn read_board<'a>(lines: &mut Lines<'a>) -> Option<Stretch<'a>>
     let first_line = lines.number;
     let first = lines.rest.clone().unwrap();
     let mut size = Size { rows: 0, cols: 0 };
+    let mut beyond = Beyond {
+        rows: None,
+        cols: None,
+    };
     'rows: while let Some(line) = lines.peek() {
         let Some(more) = line_size(line) else {
             break;
         };
         size = size.with(more);
+        beyond = beyond.with(size, lines.number);
         lines.skip();
     }
     let count = lines.number - first_line;
@@ -47,6 +83,7 @@ pub(crate) fn read_board<'a>(lines: &mut Lines<'a>) -> Option<Stretch<'a>>
         lines: first,
         count,
         size,
+        beyond,
     })
 }
 

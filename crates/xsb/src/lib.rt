@@ -48,6 +48,6 @@ pub use breaks::{BrokenRow, BrokenRows, Cause};
 pub use cells::cell_byte;
 pub use entry::{BoardEntry, Entry, ReadFault};
 pub use limits::MAX_FILE;
-pub use places::{BoardRows, BoardSource, RowPlace};
+pub use places::{BoardRows, BoardSource, Excess, RowPlace};
 pub use reader::{Collection, read};
 pub use writer::write;

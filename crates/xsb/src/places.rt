@@ -13,7 +13,7 @@ use crate::bytes::BAR;
 use crate::entry::BoardEntry;
 use crate::limits::MAX_FILE;
 use crate::lines::cut_line;
-use grid::{Cell, MAX_COLS, MAX_ROWS};
+use grid::Cell;
 use std::alloc::{AllocError, Global};
 
 /// Where a row of a board is.
@@ -36,13 +36,22 @@ pub struct BoardRows {
     pub places: Vec<RowPlace>,
 }
 
+/// Where a board is too large.
+#[derive(Clone, Copy, PartialEq, Eq, Debug)]
+pub enum Excess {
+    /// It has too many rows: the number of the line with the first of them.
+    Rows(u32),
+    /// It has too many columns, and not too many rows: the number of the first line with too long a row.
+    Columns(u32),
+}
+
 /// A board of a collection, and its rows as they were read.
 #[derive(Debug, Drop)]
 pub struct BoardSource {
     /// The board, or its first fault.
     pub entry: BoardEntry,
-    /// The rows; `None` if the board is too tall or too wide.
-    pub rows: Option<BoardRows>,
+    /// The rows, or where the board is too large.
+    pub rows: Result<BoardRows, Excess>,
 }
 
 /// The number of rows of a row line.
@@ -107,21 +116,21 @@ impl Stretch<'_> {
         Ok(places)
     }
 
-    /// The board with the places of its rows; `None` if it is too tall or too wide.
-    pub(crate) fn rows(&self, alloc: Global) -> Result<Option<BoardRows>, AllocError>
+    /// The board with the places of its rows, or where it is too large.
+    pub(crate) fn rows(&self, alloc: Global) -> Result<Result<BoardRows, Excess>, AllocError>
         requires { self.now.first_line + self.now.count ≤ MAX_FILE + 1 }
-        ensures { (rows : List (List Cell)) → HasRows self.now rows → IfOk result (λ found. HasRowsFor (board_of rows)
-            (row_places self.now.first_line (take self.now.count (cut_lines self.now.lines))) found) }
+        ensures { (rows : List (List Cell)) → HasRows self.now rows → IfOk result (λ found.
+            HasRowsFor (take self.now.count (cut_lines self.now.lines)) self.now.first_line (board_of rows) found) }
     {
-        if self.size.rows > MAX_ROWS {
-            return Ok(None);
+        if let Some(line) = self.beyond.rows {
+            return Ok(Err(Excess::Rows(line)));
         }
-        if self.size.cols > MAX_COLS {
-            return Ok(None);
+        if let Some(line) = self.beyond.cols {
+            return Ok(Err(Excess::Columns(line)));
         }
         let cells = self.cells(alloc)?;
         let places = self.places(alloc)?;
-        Ok(Some(BoardRows {
+        Ok(Ok(BoardRows {
             cols: self.size.cols,
             cells,
             places,

@@ -1,5 +1,6 @@
 -- How `explain` goes from level to level.
-use Rattle.std.specs.Prelude.{◌≡◌, ℕ, suc, ◌++◌, Bool, ◌&&◌, List, Option, Some, None}
+use Rattle.std.specs.Prelude.{◌≡◌, ℕ, suc, ◌++◌, Bool, true, ◌&&◌, List, Option, Some, None}
+use Rattle.grid.specs.Board.{Board}
 use Rattle.xsb.specs.Collection.{Found, IsJudged}
 use Rattle.xsb.specs.declared.breaks.BrokenRow.{BrokenRow}
 use Rattle.xsb.specs.declared.breaks.BrokenRows.{BrokenRows}
@@ -7,10 +8,11 @@ use Rattle.xsb.specs.declared.places.BoardSource.{BoardSource}
 use Rattle.xsb.specs.declared.places.RowPlace.{RowPlace}
 use Rattle.xsb.specs.inside.Breaking.{rows_left}
 use Rattle.xsb.specs.inside.Sources.{HasRowsFor}
-use Rattle.sokopar.specs.Explaining.{Explains}
+use Rattle.sokopar.specs.Explaining.{Explains, IsPicture, is_drawn, is_sound, level_text}
 use Rattle.sokopar.specs.Listing.{Listed}
 use Rattle.sokopar.specs.declared.explain.Broken.{Broken}
 use Rattle.sokopar.specs.declared.explain.Page.{Page}
+use Rattle.sokopar.specs.declared.remark.Remark.{Remark}
 use Rattle.sokopar.specs.inside.Explaining.{HaveBroken}
 
 -- the levels so far are explained, and the broken rows that are left are known
@@ -22,10 +24,16 @@ pub record IsPage (bytes : List ℕ) (wanted : Option ℕ) (listing : List Liste
 abbrev pub Adds : List ℕ → Bool → Page → Page → Type 0
 Adds more sound old new = (new.text ≡ old.text ++ more) × (new.sound ≡ (old.sound && sound))
 
+-- a level is written about, with its picture if it is drawn
+abbrev pub Tells : Option ℕ → ℕ → Listed → Board → List RowPlace → Remark → Page → Page → Type 0
+Tells wanted n listed board places remark old new =
+    (picture : List ℕ) × (is_drawn remark wanted ≡ true → IsPicture listed.board board.cells picture) ×
+    Adds (level_text wanted n listed board places remark picture) (is_sound remark) old new
+
 -- the board of the source, and its rows
 abbrev pub IsSourceOf : BoardSource → Found → Type 0
 IsSourceOf source found = IsJudged found.board source.entry.board ×
-    ((places : List RowPlace) × HasRowsFor found.board places source.rows)
+    ((lines : List (List ℕ)) × (first : ℕ) × HasRowsFor lines first found.board source.rows)
 
 -- no more broken rows come
 abbrev pub broken_left : Option BrokenRow → BrokenRows → ℕ

@@ -1,5 +1,5 @@
 -- The parts of reports that functions of their own write.
-use Rattle.std.specs.Prelude.{ℕ, Bool, List, ◌++◌, Result, Option, None, is_ok, codes, decimal}
+use Rattle.std.specs.Prelude.{ℕ, Bool, List, ◌++◌, Result, Option, is_ok, codes, decimal}
 use Rattle.grid.specs.Board.{Board}
 use Rattle.grid.specs.Lawful.{row_count, box_count}
 use Rattle.grid.specs.declared.fault.LevelFault.{LevelFault}
@@ -8,7 +8,6 @@ use Rattle.sokopar.specs.DeadMap.{IsMapOf}
 use Rattle.sokopar.specs.Listing.{Listed}
 use Rattle.sokopar.specs.Report.{Report, ReportsOn, IsSearchOf, cap_words, one_line}
 use Rattle.sokopar.specs.Solving.{IsSolveOf, positions_words}
-use Rattle.sokopar.specs.Table.{number_cell}
 
 -- the board is a lawful level
 abbrev pub is_good : Listed → Bool
@@ -50,8 +49,3 @@ SolvesOn cap limit n level report = ReportsOn (IsSolveOf cap limit) n level repo
 -- not, under a cap of pushes and a limit of positions
 abbrev pub FindsOn : Bool → Option ℕ → ℕ → ℕ → Option (Result Board LevelFault) → Report → Type 0
 FindsOn wanted cap limit n level report = ReportsOn (IsSearchOf (IsBest wanted cap limit)) n level report
-
--- the numbers of a finding in a table
-abbrev pub finding_cells : Option ℕ → Option ℕ → Option ℕ → List ℕ
-finding_cells pushes moves at_least =
-    number_cell None ++ number_cell None ++ number_cell pushes ++ number_cell moves ++ number_cell at_least

@@ -75,11 +75,12 @@ impl<'a> Folder for Shelf<'a> {
     }
 }
 
-// Checks the report on a folder in which reading the solution of a level fails.
+// Checks the report on a folder in which reading the solution of a level fails, in words or as a table.
 fn proves_all<R: Threads + Sync + Abort>(
     rt: &R,
     alloc: Global,
     unread: u32,
+    table: bool,
     report: &[u8],
     status: u8,
 ) {
@@ -97,6 +98,7 @@ fn proves_all<R: Threads + Sync + Abort>(
     let request = SolutionsRequest {
         from: 1,
         to: 5,
+        table,
         workers: 1,
         limit: 1_000,
         moves: false,
@@ -121,7 +123,7 @@ fn the_solutions_of_a_folder_are_proved_one_by_one(rt: HostRuntime) {
         3 bad byte at 1\n\
         5 fault 3 NoPlayer\n\
         5 levels, 1 optimal, 1 beaten, 0 open, 2 not judged, 1 without a solution\n";
-    proves_all(&rt, rt.alloc(), 0, report.as_slice(), 1);
+    proves_all(&rt, rt.alloc(), 0, false, report.as_slice(), 1);
 }
 
 #[test]
@@ -131,5 +133,16 @@ fn a_solution_that_cannot_be_read_has_a_line(rt: HostRuntime) {
         3 bad byte at 1\n\
         5 fault 3 NoPlayer\n\
         5 levels, 1 optimal, 0 beaten, 0 open, 3 not judged, 1 without a solution\n";
-    proves_all(&rt, rt.alloc(), 2, report.as_slice(), 3);
+    proves_all(&rt, rt.alloc(), 2, false, report.as_slice(), 3);
+}
+
+#[test]
+fn a_table_has_a_row_for_each_solution(rt: HostRuntime) {
+    let report =
+        b"level\tline\tboxes\tverdict\tgiven pushes\tgiven moves\tpushes\tmoves\tat least\tname\tsolution\n\
+        1\t2\t1\toptimal\t1\t1\t\t\t\ta name\t\n\
+        2\t6\t2\tbeaten\t5\t14\t3\t4\t\t\tRlLL\n\
+        3\t11\t2\tbad byte at 1\t\t\t\t\t\t\t\n\
+        5\t20\t\tfault 3 NoPlayer\t\t\t\t\t\t\t\n";
+    proves_all(&rt, rt.alloc(), 0, true, report.as_slice(), 1);
 }

@@ -1,18 +1,17 @@
 -- What the reader answers of a board and its rows.
-use Rattle.std.specs.Prelude.{◌≡◌, ℕ, ◌<◌, ◌≤◌, ◌⊎◌, List, [], ◌∷◌, ◌++◌, Option, Some, None, Result}
+use Rattle.std.specs.Prelude.{◌≡◌, ℕ, ◌≤◌, List, [], ◌∷◌, ◌++◌, length, Option, Some, None, Result, Ok, Err}
 use Rattle.grid.specs.Board.{Board}
-use Rattle.grid.specs.Lawful.{row_count}
-use Rattle.grid.specs.declared.cell.Cell.{Cell}
-use Rattle.grid.specs.declared.limits.TheConstants.{MAX_ROWS, MAX_COLS}
+use Rattle.grid.specs.declared.limits.TheConstants.{MAX_COLS}
 use Rattle.xsb.specs.Boards.{board_of}
 use Rattle.xsb.specs.Collection.{Found, IsCollection}
 use Rattle.xsb.specs.Entries.{IsBoardEntry}
-use Rattle.xsb.specs.Places.{IsBoardAt}
+use Rattle.xsb.specs.Places.{IsBoardAt, IsExcess, row_places}
 use Rattle.xsb.specs.declared.boards.Stretch.{Stretch}
 use Rattle.xsb.specs.declared.entry.BoardEntry.{BoardEntry}
 use Rattle.xsb.specs.declared.lines.Lines.{Lines}
 use Rattle.xsb.specs.declared.places.BoardRows.{BoardRows}
 use Rattle.xsb.specs.declared.places.BoardSource.{BoardSource}
+use Rattle.xsb.specs.declared.places.Excess.{Excess}
 use Rattle.xsb.specs.declared.places.RowPlace.{RowPlace}
 use Rattle.xsb.specs.declared.reader.Collection.{Collection}
 use Rattle.xsb.specs.inside.Cursors.{IsAt}
@@ -34,16 +33,24 @@ Takes bytes founds old new (Some taken) =
     (found : Found) × IsBoardEntry taken.0 found × HasRead bytes new (founds ++ found ∷ []) ×
     IsTaken old.lines new.lines found taken.1
 
--- the rows of a board whose rows have these places; none if it is too tall or too wide
-abbrev pub HasRowsFor : Board → List RowPlace → Option BoardRows → Type 0
-HasRowsFor board places None = (MAX_ROWS < row_count board) ⊎ (MAX_COLS < board.cols)
-HasRowsFor board places (Some rows) =
-    (board ≡ record { cols = rows.cols; cells = rows.cells.items }) × (places ≡ rows.places.items) × (1 ≤ rows.cols)
+-- the rows of a board that was not too large, in its lines from this one on
+pub record AreRowsOf (lines : List (List ℕ)) (first : ℕ) (board : Board) (rows : BoardRows) : Type 0 where
+  pub board_is : board ≡ record { cols = rows.cols; cells = rows.cells.items }
+  pub places_are : row_places first lines ≡ rows.places.items
+  pub columns : 1 ≤ rows.cols
+  pub wide : rows.cols ≤ MAX_COLS
+  pub bound : length rows.cells.items ≤ 65535
+
+-- the rows of a board, or where it is too large
+abbrev pub HasRowsFor : List (List ℕ) → ℕ → Board → Result BoardRows Excess → Type 0
+HasRowsFor lines first board (Ok rows) = AreRowsOf lines first board rows
+HasRowsFor lines first board (Err excess) = IsExcess lines first excess
 
 -- the board that was found is read from the lines at its first line, with these rows
-abbrev pub HasSource : List ℕ → Found → Option BoardRows → Type 0
-HasSource bytes found rows =
-    (places : List RowPlace) × IsBoardAt bytes found.first_line found.board places × HasRowsFor found.board places rows
+abbrev pub HasSource : List ℕ → Found → Result BoardRows Excess → Type 0
+HasSource bytes found rows = (places : List RowPlace) ×
+    (here : IsBoardAt bytes found.first_line found.board places) ×
+    HasRowsFor here.lines found.first_line found.board rows
 
 -- the next board with its rows, and the collection after it; or these boards are all
 abbrev pub GivesSource : List ℕ → List Found → Collection → Option BoardSource → Type 0

@@ -1,11 +1,15 @@
 -- What the reader keeps of a board's lines.
-use Rattle.std.specs.Prelude.{◌≡◌, ℕ, ◌+◌, ◌<◌, ◌≤◌, List, ◌++◌, length, flat_map}
+use Rattle.std.specs.Prelude.{◌≡◌, ℕ, ◌+◌, ◌<◌, ◌≤◌, nat_lt, Bool, cond, List, ◌++◌, length, flat_map, Option, Some, None}
+use Rattle.std.specs.Prelude.{MatchOption}
 use Rattle.std.specs.List.{AllZip}
 use Rattle.grid.specs.declared.cell.Cell.{Cell}
+use Rattle.grid.specs.declared.limits.TheConstants.{MAX_ROWS, MAX_COLS}
 use Rattle.xsb.specs.declared.lines.Lines.{Lines}
+use Rattle.xsb.specs.declared.boards.Beyond.{Beyond}
 use Rattle.xsb.specs.declared.boards.Stretch.{Stretch}
 use Rattle.xsb.specs.declared.sizes.Size.{Size}
 use Rattle.xsb.specs.Boards.{cols_of, padded}
+use Rattle.xsb.specs.Places.{IsFirstPast}
 use Rattle.xsb.specs.Rows.{IsRowLine}
 use Rattle.xsb.specs.inside.Reading.{cut_lines, IsSize}
 use Rattle.xsb.specs.inside.Gaps.{BeginsGap}
@@ -16,6 +20,28 @@ pub record AreRowLines (lines : List (List ℕ)) (rows : List (List Cell)) : Typ
   pub each : AllZip IsRowLine lines by_line
   pub all : rows ≡ flat_map (λ r. r) by_line
 
+-- a line that was found, or else line n if it is found
+abbrev pub first_of : Option ℕ → Bool → ℕ → Option ℕ
+first_of (Some line) is_found n = Some line
+first_of None is_found n = cond is_found (Some n) None
+
+-- the lines up to which a board is too large, after line n, up to which its rows have this size
+abbrev pub beyond_with : Beyond → Size → ℕ → Beyond
+beyond_with beyond size n = record {
+  rows = first_of beyond.rows (nat_lt MAX_ROWS size.rows) n;
+  cols = first_of beyond.cols (nat_lt MAX_COLS size.cols) n;
+}
+
+-- the first of these lines up to which the rows have more than the most of something; none if they have not
+abbrev pub IsPastAt : (List (List Cell) → ℕ) → ℕ → List (List ℕ) → List (List Cell) → ℕ → Option ℕ → Type 0
+IsPastAt count most lines rows first found =
+    MatchOption found (count rows ≤ most) (λ n. IsFirstPast count most lines first n)
+
+-- the lines up to which the rows of these lines are too large
+pub record ArePast (lines : List (List ℕ)) (rows : List (List Cell)) (first : ℕ) (beyond : Beyond) : Type 0 where
+  pub tall : IsPastAt length MAX_ROWS lines rows first beyond.rows
+  pub wide : IsPastAt cols_of MAX_COLS lines rows first beyond.cols
+
 -- the rows of a stretch, and their size
 pub record HasRows (stretch : Stretch) (rows : List (List Cell)) : Type 0 where
   pub some : 0 < stretch.count
@@ -25,6 +51,7 @@ pub record HasRows (stretch : Stretch) (rows : List (List Cell)) : Type 0 where
   pub count : length lines ≡ stretch.count
   pub rows_are : AreRowLines lines rows
   pub size : IsSize stretch.size rows
+  pub past : ArePast lines rows stretch.first_line stretch.beyond
 
 -- the cells of a stretch by rows, all rows as long as the longest
 abbrev pub AreCellsOf : Stretch → List Cell → Type 0
@@ -47,6 +74,7 @@ pub record ReadsBoard (old new : Lines) (stretch : Stretch) : Type 0 where
   pub first_line : stretch.first_line ≡ old.number
   pub count : stretch.count ≡ length lines
   pub from : stretch.lines ≡ old.rest
+  pub past : ArePast lines rows stretch.first_line stretch.beyond
   pub ends : BeginsGap (cut_lines new.rest)
 
 -- no row line comes next

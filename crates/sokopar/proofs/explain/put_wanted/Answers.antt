@@ -1,32 +1,37 @@
--- What is found is true of the board.
-use Rattle.std.proofs.Common.{Option, refl, sym, subst}
-use Rattle.grid.specs.Board.{Board}
+-- The rows of the board are told of, or where it is too large.
+use Rattle.std.proofs.Common.{Result, subst}
 use Rattle.xsb.specs.declared.places.BoardRows.{BoardRows}
+use Rattle.xsb.specs.declared.places.Excess.{Excess}
 use Rattle.xsb.specs.inside.Sources.{HasRowsFor}
 use Rattle.sokopar.specs.Entries.{listed_of}
-use Rattle.sokopar.specs.declared.remark.Remark.TheVariants.{TooLarge}
-use Rattle.sokopar.specs.inside.Explaining.{board_in}
-use Rattle.sokopar.proofs.Explanations.{found-added}
+use Rattle.sokopar.proofs.Explanations.{judged-of, level-large, level-written, rows-of}
 use Rattle.sokopar.proofs.explain.put_wanted.Goals as goal
 
-pub returns-in_default : goal.returns-in_default
-returns-in_default c = λ found places judged rows.
-    let large = subst (λ (r : Option BoardRows). HasRowsFor found.board places r) c.in_default.is rows in
-    found-added c.put_large.result c.args.wanted c.args.number (listed_of c.args.source.entry) found.board found.board places places TooLarge
-    c.args.page.now c.put_large.new.page refl refl large
-    (c.put_large.ensures c.args.wanted c.args.number (listed_of c.args.source.entry) found.board places c.in_ok-head.ensures)
+pub put_judged-requires-clause-columns : goal.put_judged-requires-clause-columns
+put_judged-requires-clause-columns c =
+    let has = rows-of c.args.source c.in-Ok.rows c.requires.0 c.requires.1 c.in-Ok.is in has.2.columns
 
-pub returns-then-is_too_large : goal.returns-then-is_too_large
-returns-then-is_too_large c = λ found places judged rows.
-    let has = subst (λ (r : Option BoardRows). HasRowsFor found.board places r) c.in-Some.is rows in
-    found-added c.put_large-then-is_too_large.result c.args.wanted c.args.number (listed_of c.args.source.entry) found.board (board_in c.in-Some.rows)
-    places places TooLarge
-    c.args.page.now c.put_large-then-is_too_large.new.page has.0 refl c.if-is_too_large.ensures
-    (c.put_large-then-is_too_large.ensures c.args.wanted c.args.number (listed_of c.args.source.entry) (board_in c.in-Some.rows) places c.in_ok-head.ensures)
+pub put_judged-requires-clause-wide : goal.put_judged-requires-clause-wide
+put_judged-requires-clause-wide c =
+    let has = rows-of c.args.source c.in-Ok.rows c.requires.0 c.requires.1 c.in-Ok.is in has.2.wide
 
-pub returns : goal.returns
-returns c = λ found places judged rows.
-    let has = subst (λ (r : Option BoardRows). HasRowsFor found.board places r) c.in-Some.is rows in
-    found-added c.put_found.result c.args.wanted c.args.number (listed_of c.args.source.entry) found.board (board_in c.in-Some.rows)
-    places c.in-Some.rows.places.items c.in_ok-remark.remark c.args.page.now c.put_found.new.page has.0 has.1 c.in_ok-remark.ensures
-    (c.put_found.ensures c.args.number (listed_of c.args.source.entry) c.in_ok-head.ensures)
+pub put_judged-requires-clause-bound : goal.put_judged-requires-clause-bound
+put_judged-requires-clause-bound c =
+    let has = rows-of c.args.source c.in-Ok.rows c.requires.0 c.requires.1 c.in-Ok.is in has.2.bound
+
+pub put_judged-requires-clause-judged : goal.put_judged-requires-clause-judged
+put_judged-requires-clause-judged c = judged-of c.args.source c.in-Ok.rows c.requires.0 c.requires.1 c.in-Ok.is
+
+pub returns-in-Ok : goal.returns-in-Ok
+returns-in-Ok c = λ bytes found listing count is listed source before.
+    level-written c.put_judged.result bytes c.args.wanted c.args.number listing c.args.source.entry found source.0 c.in-Ok.rows c.args.page.now
+    c.put_judged.new.page count is listed source.1
+    (subst (λ (r : Result BoardRows Excess). HasRowsFor source.1.lines found.first_line found.board r) c.in-Ok.is source.2)
+    (c.put_judged.ensures c.args.number c.in_ok-head.ensures) before
+
+pub returns-in-Err : goal.returns-in-Err
+returns-in-Err c = λ bytes found listing count is listed source before.
+    level-large c.put_large.result bytes c.args.wanted c.args.number listing c.args.source.entry found source.0 c.in-Err.excess c.args.page.now
+    c.put_large.new.page count is listed source.1
+    (subst (λ (r : Result BoardRows Excess). HasRowsFor source.1.lines found.first_line found.board r) c.in-Err.is source.2)
+    (c.put_large.ensures c.args.number (listed_of c.args.source.entry) c.in_ok-head.ensures) before

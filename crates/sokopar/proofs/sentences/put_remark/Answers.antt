@@ -3,9 +3,6 @@ use Rattle.std.proofs.Common.{◌≡◌, ℕ, List, ◌++◌, OnOk, codes, subst
 use Rattle.sokopar.specs.Explaining.{sentence, sentences}
 use Rattle.sokopar.proofs.sentences.put_remark.Goals as goal
 
-pub returns-in-TooLarge : goal.returns-in-TooLarge
-returns-in-TooLarge c = rw c.in-TooLarge.is (c.put_too_large.ensures c.args.rows.now.cols c.args.rows.now.places.items)
-
 pub returns-in-Players : goal.returns-in-Players
 returns-in-Players c = rw c.in-Players.is (subst (λ (xs : List ℕ). OnOk c.put_sentences.result (c.put_sentences.new.text ≡ c.args.text.now ++
     sentences (codes "a player is") c.args.rows.now.cols c.args.rows.now.places.items xs)) c.deref.ensures.value c.put_sentences.ensures)

@@ -12,4 +12,4 @@ returns-in-Ok-Some g c =
 pub returns-in-Err : goal.returns-in-Err
 returns-in-Err g c =
     right_stopped (g.D.Folder.opened c.args.self.now.folder.now) g.D.File.Source.seen c.args.self.now.request _ (listed_of c.args.board) c.open.result
-    c.in-Err.fault _ (search rules) c.open.ensures.opened c.stopped.ensures
+    c.in-Err.fault _ (search rules) c.open.ensures.opened c.unopened.ensures

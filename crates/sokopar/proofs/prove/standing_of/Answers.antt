@@ -2,7 +2,7 @@
 use Rattle.std.proofs.Common.{arith, Some}
 use Rattle.shortest.proofs.lemmas.Fewest.{none_has_fewer}
 use Rattle.sokopar.proofs.Judging.{limit_bounds, least_of}
-use Rattle.sokopar.proofs.prove.judged.Goals as goal
+use Rattle.sokopar.proofs.prove.standing_of.Goals as goal
 
 pub with_fewest_pushes-requires-clause-fewest : goal.with_fewest_pushes-requires-clause-fewest
 with_fewest_pushes-requires-clause-fewest g c =
