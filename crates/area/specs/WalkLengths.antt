@@ -15,6 +15,6 @@ pub record IsWalkLength (board : Board) (s : Scene) (q n : ℕ) : Type 0 where
 abbrev pub walk_length : List ℕ → ℕ → ℕ
 walk_length marks q = slice_index marks q - (BOX_MARK + 1)
 
--- so it is for each square that the player walks to
+-- `IsWalkLength` for each square that the player walks to
 abbrev pub AreWalkLengths : Board → Scene → List ℕ → Type 0
 AreWalkLengths board s marks = (q : ℕ) → Area board s q → IsWalkLength board s q (walk_length marks q)

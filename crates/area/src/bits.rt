@@ -139,7 +139,7 @@ pub fn after(words: &[u64], index: usize, by: usize) -> u64
     slid_down(here, high, near)
 }
 
-// What `before` gives, for a `by` below the number of a word's bits.
+// `before` for a `by` below the number of a word's bits.
 #[inline(always)]
 pub(crate) fn just_before(words: &[u64], index: usize, by: usize) -> u64
     requires inside { index < length words.now }
@@ -152,7 +152,7 @@ pub(crate) fn just_before(words: &[u64], index: usize, by: usize) -> u64
     slid_up(words[index], low, by)
 }
 
-// What `after` gives, for a `by` below the number of a word's bits.
+// `after` for a `by` below the number of a word's bits.
 #[inline(always)]
 pub(crate) fn just_after(words: &[u64], index: usize, by: usize) -> u64
     requires inside { index < length words.now }

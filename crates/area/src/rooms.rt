@@ -82,7 +82,7 @@ fn used(free: &[u64], reached: &[u64]) -> usize
     words
 }
 
-// What `widen` does for sets whose words after the first `W` are 0.
+// `widen` for sets whose words after the first `W` are 0.
 fn widen_first<const W: usize>(cols: usize, free: &[u64], reached: &mut [u64])
     requires columns { 1 ≤ cols }
     requires near { cols < WORD_BITS }
@@ -96,7 +96,7 @@ fn widen_first<const W: usize>(cols: usize, free: &[u64], reached: &mut [u64])
     widen_few::<W>(cols, &free[..W], &mut reached[..W]);
 }
 
-// The same for words so few that they stay in registers.
+// `widen` for `W` words, which stay in registers.
 fn widen_few<const W: usize>(cols: usize, free: &[u64], reached: &mut [u64])
     requires columns { 1 ≤ cols }
     requires near { cols < WORD_BITS }
@@ -164,7 +164,7 @@ fn just_beside(cols: usize, words: &[u64], index: usize) -> u64
         | (just_before(words, index, cols) | just_after(words, index, cols))
 }
 
-// The same for any number of columns.
+// `just_beside` for any number of columns.
 #[inline(always)]
 fn beside(cols: usize, words: &[u64], index: usize) -> u64
     requires inside { index < length words.now }
@@ -175,7 +175,7 @@ fn beside(cols: usize, words: &[u64], index: usize) -> u64
         | (before(words, index, cols) | after(words, index, cols))
 }
 
-// What `widen` does, by visits to words. After a word that grew it goes back to the first word that the new numbers
+// `widen` by visits to words. After a word that grew it goes back to the first word that the new numbers
 // lead into. So each word before `index` is full.
 fn widen_many(cols: usize, free: &[u64], reached: &mut [u64])
     requires columns { 1 ≤ cols }

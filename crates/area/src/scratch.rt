@@ -108,7 +108,7 @@ impl Scratch {
         self.spare.as_words_mut()
     }
 
-    /// The same for the boxes that are connected to the one on the square: a chain of boxes leads to each, every
+    /// `boxes_aside` for the boxes that are connected to the one on the square: a chain of boxes leads to each, every
     /// box beside the one before it.
     pub fn group_aside(&mut self, level: &Level, boxes: &[Square], square: Square) -> &mut [u64]
         requires clear { (q : ℕ) → contains boxes.now q ≡ true → is_wall level.now q ≡ false }

@@ -49,7 +49,7 @@ pub(crate) fn look_ahead(
     look(level, square, push_dir, &ring, scratch)
 }
 
-// The same from the ring round the square ahead.
+// `look_ahead`, given the ring round the square ahead.
 #[inline(always)]
 fn look(level: &Level, square: Square, push_dir: Dir, ring: &Ring, scratch: &Scratch) -> Sight
     requires inside { square < length level.now.cells }

@@ -56,7 +56,7 @@ impl Ledger {
         Ok((Ledger { table, len }, drawer))
     }
 
-    /// The same drawer, and one more without a place. The drawer is of this ledger and has no place.
+    /// Splits a drawer: returns it, and one more without a place. The drawer is of this ledger and has no place.
     pub fn split(&self, drawer: Drawer) -> (Drawer, Drawer)
         requires { (drawer.ledger ≡ self.now) × IsNone drawer.hand.place }
         ensures { (result.0 ≡ drawer) × (result.1 ≡ newcomer self.now) }

@@ -70,7 +70,7 @@ impl Subcommand {
         }
     }
 
-    /// What it does, in one line of the help text.
+    /// Its line in the help text.
     fn about<'a>(self) -> &'a str {
         match self {
             Subcommand::Check => "Checks each level",

@@ -50,7 +50,7 @@ fn are_inside(ground: &Ground<'_>, squares: &[Square]) -> bool
     squares.iter().all(|square| ground.has(*square))
 }
 
-// The same, once the sets hold the boxes and the squares.
+// `is_closure`, once the sets hold the boxes and the squares.
 fn is_found(
     ground: &Ground<'_>,
     boxes: &[Square],
@@ -149,7 +149,7 @@ fn are_ready(ground: &Ground<'_>, boxes: &[Square], sets: &Sets, spare: &mut Scr
     true
 }
 
-// The same for one square.
+// `are_ready` for one square.
 fn is_ready_round(
     ground: &Ground<'_>,
     boxes: &[Square],

@@ -66,7 +66,7 @@ impl Choice {
         self.is_mobile_along(ground, place, Dir::D) || self.is_mobile_along(ground, place, Dir::R)
     }
 
-    // The same for the pushes in a direction and its opposite.
+    // `is_mobile` for the pushes in a direction and its opposite.
     fn is_mobile_along(&mut self, ground: &Ground<'_>, place: usize, dir: Dir) -> bool {
         let behind = self.sketch.beside(place, dir.opposite());
         let ahead = self.sketch.beside(place, dir);

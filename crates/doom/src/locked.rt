@@ -30,7 +30,7 @@ pub(crate) fn any_locked(
     has_locked(holds, level.cols(), boxes, scratch.boxes_aside(boxes))
 }
 
-/// The same for the boxes connected to the one on the square.
+/// `any_locked` for the boxes connected to the one on the square.
 pub(crate) fn any_locked_with(
     level: &Level,
     holds: &Holds,
@@ -82,7 +82,7 @@ fn keep_held(holds: &Holds, cols: usize, boxes: &[Square], members: &mut [u64])
     }
 }
 
-// The same for any number of words.
+// `keep_held` for any number of words.
 fn keep_held_many(holds: &Holds, cols: usize, boxes: &[Square], members: &mut [u64])
     requires holds { HaveRoom holds.now (length members.old) }
     requires among { AreWithin (squares_of members.old) boxes.now }
@@ -112,7 +112,7 @@ fn peel(holds: &Holds, cols: usize, boxes: &[Square], members: &mut [u64]) -> bo
     }
 }
 
-// The same, by the word of each box.
+// `peel` by the word of each box.
 fn peel_boxes(holds: &Holds, cols: usize, boxes: &[Square], members: &mut [u64]) -> bool
     requires holds { HaveRoom holds.now (length members.old) }
     requires among { AreWithin (squares_of members.old) boxes.now }
@@ -126,7 +126,7 @@ fn peel_boxes(holds: &Holds, cols: usize, boxes: &[Square], members: &mut [u64])
     went
 }
 
-// The same, by each word once.
+// `peel` by each word once.
 pub(crate) fn peel_words(holds: &Holds, cols: usize, members: &mut [u64]) -> bool
     requires holds { HaveRoom holds.now (length members.old) }
     ensures { IsPass holds.now cols members.old members.new result }
@@ -182,7 +182,7 @@ fn has_other(boxes: &[Square], members: &[u64], others: &[u64]) -> bool
     }
 }
 
-// The same, by each box.
+// `has_other` by each box.
 fn is_other_box(boxes: &[Square], members: &[u64], others: &[u64]) -> bool
     ensures { result ≡ list_any (λ q. has_bit members.now q && not (has_bit others.now q)) boxes.now }
 {
@@ -191,7 +191,7 @@ fn is_other_box(boxes: &[Square], members: &[u64], others: &[u64]) -> bool
         .any(|square| has(members, *square) && !has(others, *square))
 }
 
-// The same, by each word.
+// `has_other` by each word.
 pub(crate) fn is_other_word(members: &[u64], others: &[u64]) -> bool
     requires { length members.now ≤ length others.now }
     ensures { IsTrue result ↔ ((q : ℕ) × (has_bit members.now q ≡ true) × (has_bit others.now q ≡ false)) }

@@ -232,7 +232,7 @@ fn same_cells(cells: &[Cell], others: &[Cell]) -> bool
     are_same(cells, others)
 }
 
-// The same for equally many cells. The loop has no early end, so that the compiler compares several at once.
+// `same_cells` for equally many cells. The loop has no early end, so that the compiler compares several at once.
 #[inline(always)]
 fn are_same(cells: &[Cell], others: &[Cell]) -> bool
     requires { length cells.now ≡ length others.now }

@@ -8,7 +8,7 @@ use std::test::Fail;
 // A player, a box and a goal in a row between walls.
 const CORRIDOR: BoardText = (5, b"######@$.######");
 
-// The same with a free square between player and box.
+// `CORRIDOR` with a free square between player and box.
 const LONG_CORRIDOR: BoardText = (6, b"#######@ $.#######");
 
 // The verdict on a text, replayed in the corridor.

@@ -152,7 +152,7 @@ fn check_corral(
     assert!(rt; corral.holds(Square(13)));
 }
 
-/// The same for the start of this level.
+/// `check_corral` for the start of this level.
 fn check_start(rt: &impl Abort, alloc: Global, level: &Level, start: &Position)
     requires { FitsLevel level.now start.now }
 {

@@ -7,6 +7,6 @@ use Rattle.sokopar.specs.Listing.{Listed}
 abbrev pub listed_of : BoardEntry → Listed
 listed_of entry = record { name = entry.name.items; first_line = entry.first_line; board = entry.board }
 
--- the same of a board with its level
+-- `listed_of` of a board with its level
 abbrev pub entry_listed : Entry → Listed
 entry_listed entry = record { name = entry.name.items; first_line = entry.first_line; board = entry.board }

@@ -10,7 +10,7 @@ pub record IsEntry (entry : Entry) (found : Found) : Type 0 where
   pub first_line : entry.first_line ≡ found.first_line
   pub board : IsJudged found.board entry.board
 
--- the same, of which no level was made yet
+-- `IsEntry` before the level is made
 pub record IsBoardEntry (entry : BoardEntry) (found : Found) : Type 0 where
   pub name : entry.name.items ≡ found.name
   pub first_line : entry.first_line ≡ found.first_line

@@ -19,7 +19,7 @@ pub(crate) struct Beyond {
 }
 
 impl Beyond {
-    /// The same after a line with this number, up to which the rows have this size.
+    /// These lines after one more with this number, up to which the rows have this size.
     fn with(self, size: Size, number: u32) -> Beyond
         ensures { result ≡ beyond_with self size number }
     {

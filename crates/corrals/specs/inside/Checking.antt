@@ -11,7 +11,7 @@ use Rattle.corrals.specs.Corrals.{IsReady}
 abbrev pub shut_beside : Board → (ℕ → Bool) → (ℕ → Bool) → ℕ → Dir → Bool
 shut_beside board held room q d = is_wall board (next board q d) || (room (next board q d) || held (next board q d))
 
--- the same in each direction, and the square has no box
+-- `shut_beside` in each direction, and the square has no box
 abbrev pub shut_round : Board → Squares → (ℕ → Bool) → (ℕ → Bool) → ℕ → Bool
 shut_round board boxes held room q =
     nat_lt q (length board.cells) &&

@@ -34,7 +34,7 @@ fn dooms_of_start(rt: &impl Abort, alloc: Global, level: &Level, dir: Dir) -> (b
     dooms_of(rt, level, &dead, &position, dir, &mut scratch)
 }
 
-// The same for any position.
+// `dooms_of_start` for any position.
 fn dooms_of(
     rt: &impl Abort,
     level: &Level,
@@ -95,7 +95,7 @@ pub(crate) fn verdicts(
     (dooms, spared)
 }
 
-// The same for a push from the start of a board.
+// `verdicts` for a push from the start of a board.
 fn verdicts_at_start(
     rt: &impl Abort,
     alloc: Global,

@@ -60,7 +60,7 @@ pub(super) fn worked<R: Wait + Abort, G: Gate>(
     (end, lock.into_inner())
 }
 
-/// The same with several books.
+/// `worked` with several books.
 pub(super) fn worked_over<R: Wait + Abort, G: Gate>(
     rt: &R,
     alloc: Global,
