@@ -357,7 +357,8 @@ its levels from --from to --to. It prints a line for each level N of which the
 folder has a file N.lurd, as soon as that is decided, and the totals:
   7 optimal P pushes, S moves            Level 7: as above, on one line.
   8 cannot read                          The file cannot be opened or read.
-  T levels, .. optimal, .. beaten, .. open, .. not judged, .. without a solution
+  T levels, .. optimal, .. beaten, ..    The totals, also how many are open, not
+                                         judged and without a solution.
 The exit status is 0 if all that have a solution are optimal, else 5 if one ran
 out of memory, else 3 if one cannot be read, else 4 if one is open, else 1.
 
