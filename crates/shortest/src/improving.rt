@@ -63,13 +63,13 @@ pub fn improve(
     if aim == Aim::FewerMoves {
         return improve_by(alloc, level, moves, aim, states, &mut finder);
     }
-    improve_by(alloc, level, moves, aim, states / 2, &mut finder)?;
+    improve_by(alloc, level, moves, aim, states / 3 * 2, &mut finder)?;
     improve_by(
         alloc,
         level,
         moves,
         Aim::FewerMoves,
-        states / 2,
+        states / 3,
         &mut finder,
     )
 }
@@ -102,12 +102,13 @@ fn improve_by(
     repeat(alloc, level, moves, two, finder)
 }
 
-// The form of a first search.
+// The form of a first search. So few states have fewer pushes and one box elsewhere that all are expanded.
 fn form_of(aim: Aim, displaced: u32, states: usize) -> Form {
+    let are_few = aim == Aim::FewerPushes && displaced == 1;
     Form {
         aim,
         displaced,
-        width: FIRST_WIDTH,
+        width: if are_few { usize::MAX } else { FIRST_WIDTH },
         states,
     }
 }

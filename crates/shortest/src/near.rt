@@ -4,7 +4,7 @@
 //! state is listed if few of its boxes are elsewhere than in some position of the solution round the layer, and if the
 //! bounds allow its pushes. Of a layer it expands the states of the best ranks, and always that of the solution. This
 //! is a guess: the contracts say no more than that the calls are safe.
-ghost use Rattle.std.specs.Prelude.{◌≡◌, ◌≤◌, IfOk, Some};
+ghost use Rattle.std.specs.Prelude.{◌≡◌, ◌≤◌, IfOk, IfSome, Some};
 ghost use Rattle.grid.specs.Lawful.{box_count};
 ghost use Rattle.grid.specs.States.{FitsLevel};
 ghost use Rattle.area.specs.Pushes.{CanPush};
@@ -243,10 +243,10 @@ fn list_after(
     else {
         return Ok(());
     };
-    let after = state_after(
+    let after = next_state(
         bounds,
+        layer,
         from,
-        layer.left,
         Push { square, dir },
         slack,
         &mut memory.workspace,
@@ -273,6 +273,42 @@ fn list_after(
         label_of(moves, rank, Some(parent)),
         listed,
     )
+}
+
+// The state after a push, if the bounds allow it. Where pushes are counted, the player is on the least square of his
+// area, so that states which differ in his walks alone are one.
+fn next_state(
+    bounds: &Bounds<'_>,
+    layer: &Layer<'_>,
+    from: &Reached,
+    push: Push,
+    slack: &Slack<'_>,
+    workspace: &mut Workspace<'_>,
+) -> Option<Position>
+    requires board { workspace.old.expander.task.board ≡ bounds.now.board }
+    requires fits { FitsLevel bounds.now.board from.now.state }
+    requires found { HasPushesOf workspace.old.expander from.now.state }
+    requires possible { CanPush bounds.now.board from.now.state push }
+    requires slack { (slack.now.board ≡ bounds.now.board) × (slack.now.scene ≡ from.now.state) ×
+        (slack.now.left ≡ Some layer.now.left) }
+    ensures fits { IfSome result (FitsLevel bounds.now.board) }
+    ensures kept { workspace.new.expander ≡ workspace.old.expander }
+{
+    let Push { square, dir } = push;
+    let after = state_after(
+        bounds,
+        from,
+        layer.left,
+        Push { square, dir },
+        slack,
+        workspace,
+    );
+    if after.is_none() || layer.form.aim == Aim::FewerMoves {
+        return after;
+    }
+    workspace
+        .expander
+        .try_push(&from.state, Push { square, dir })
 }
 
 // Enters a state, if no layer before has it, or gives it a label with fewer moves.

@@ -43,10 +43,10 @@ impl Trail {
         Ok(Trail { positions, walked })
     }
 
-    /// Whether the position after a number of pushes is this one.
+    /// Whether the position after a number of pushes has the boxes of this one.
     pub(crate) fn passes(&self, pushes: usize, position: &Position) -> bool {
         match self.positions.get(pushes) {
-            Some(own) => *own == *position,
+            Some(own) => own.boxes() == position.boxes(),
             None => false,
         }
     }

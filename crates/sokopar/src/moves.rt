@@ -94,8 +94,12 @@ pub(crate) fn search_fewest(
 }
 
 /// How many states a search near a solution lists in all, under a limit of positions of the search before it.
-fn states_near(limit: u32) -> usize {
-    (limit / 10).max(50_000) as usize
+fn states_near(aim: Aim, limit: u32) -> usize {
+    let states = match aim {
+        Aim::FewerPushes => limit,
+        Aim::FewerMoves => limit / 10,
+    };
+    states.max(50_000) as usize
 }
 
 /// The moves, or better ones that a search near them finds, under a limit of positions of the search before it.
@@ -104,7 +108,7 @@ pub(crate) fn improved(alloc: Global, level: &Level, moves: Moves, aim: Aim, lim
 {
     let mut moves = moves;
     // If it runs out of memory, the moves are the best ones so far.
-    let _ = improve(alloc, level, &mut moves, aim, states_near(limit));
+    let _ = improve(alloc, level, &mut moves, aim, states_near(aim, limit));
     moves
 }
 

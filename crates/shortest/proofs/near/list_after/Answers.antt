@@ -17,4 +17,4 @@ next-behind-requires c =
 pub enter_since-requires : goal.enter_since-requires
 enter_since-requires c =
     level_fits c.args.bounds.now.board c.args.listed.now.boxes c.args.listed.now.squares c.in-Some-after.after
-    c.requires.list.boxes c.requires.list.squares c.in-Some-after.ensures.after.1
+    c.requires.list.boxes c.requires.list.squares c.in-Some-after.ensures.fits
