@@ -1,9 +1,9 @@
 //! Searches the states near a solution for a better one.
 //!
-//! The search goes by layers: layer k has states after k pushes, each with the fewest moves that it found for it. A
+//! The search goes by layers: layer k has states after k pushes. It keeps the fewest moves that it found to each. A
 //! state is listed if few of its boxes are elsewhere than in some position of the solution round the layer, and if the
-//! bounds allow its pushes. Of a layer it expands the states of the best ranks, and always that of the solution. This
-//! is a guess: the contracts say no more than that the calls are safe.
+//! bounds allow its pushes. For fewer pushes with one box elsewhere, a layer is expanded whole. Otherwise its states of
+//! the best ranks are, and always that of the solution. This is a guess: contracts say only that the calls are safe.
 ghost use Rattle.std.specs.Prelude.{◌≡◌, ◌≤◌, IfOk, IfSome, Some};
 ghost use Rattle.grid.specs.Lawful.{box_count};
 ghost use Rattle.grid.specs.States.{FitsLevel};
