@@ -16,7 +16,7 @@ use Rattle.grid.proofs.lemmas.Squares.{contains-from, rises_from-parts, rises_fr
 use Rattle.grid.proofs.lemmas.Steps.{inside_grid}
 use Rattle.area.specs.After.{IsAreaOf}
 use Rattle.area.specs.Pushes.{ArePushes}
-use Rattle.area.specs.inside.PushLists.{Allows, IsBefore, AreAllowedBefore, IsListing}
+use Rattle.area.specs.inside.PushLists.{AllowsPush, IsBefore, AreAllowedBefore, IsListing}
 use Rattle.grid.proofs.lemmas.Directions.{dir_same, dir_number-lt}
 use Rattle.area.proofs.lemmas.PushOrder.{all_none, all_same, all_push}
 
@@ -52,7 +52,7 @@ module _ (board : Board) (reach : Reach) (square : ℕ) where
 
   -- past squares of which nothing is allowed
   past_none : (ps : List Push) (to : ℕ) → square ≤ to
-      → ((p : Push) → Allows board reach p → square ≤ p.square → p.square < to → ⊥)
+      → ((p : Push) → AllowsPush board reach p → square ≤ p.square → p.square < to → ⊥)
       → AreAllowedBefore board reach square 0 ps → AreAllowedBefore board reach to 0 ps
   past_none ps to le none all = all_same _ _ ps all
       (λ p h. (h.0, elim h.1 [ inl lt ↦ inl (omega (arith, lt, le)) | inr e ↦ absurd (omega (arith, e.1)) ]))
@@ -68,12 +68,12 @@ module _ (board : Board) (reach : Reach) (square : ℕ) where
   -- the push in the next direction can be made
   pub before_more : (ps : List Push) (seen : ℕ) (d : Dir) → dir_number d ≡ seen
       → AreAllowedBefore board reach square seen ps
-      → Allows board reach (record { square = square; dir = d })
+      → AllowsPush board reach (record { square = square; dir = d })
       → AreAllowedBefore board reach square (seen + 1) (ps ++ record { square = square; dir = d } ∷ [])
   before_more ps seen d at all can =
       let new : Push = record { square = square; dir = d } in
-      all_push (λ p. Allows board reach p × IsBefore square seen p)
-      (λ p. Allows board reach p × IsBefore square (seen + 1) p) ps new all
+      all_push (λ p. AllowsPush board reach p × IsBefore square seen p)
+      (λ p. AllowsPush board reach p × IsBefore square (seen + 1) p) ps new all
       (can, inr (refl, omega (arith, at)))
       (λ p h. (h.0, elim h.1 [ inl lt ↦ inl lt | inr e ↦ inr (e.0, omega (arith, e.1)) ]))
       (λ p h. elim h.1 [
@@ -89,7 +89,7 @@ module _ (board : Board) (reach : Reach) (square : ℕ) where
   -- and where it cannot, nothing is to be added
   pub before_same : (ps : List Push) (seen : ℕ) (d : Dir) → dir_number d ≡ seen
       → AreAllowedBefore board reach square seen ps
-      → ¬ (Allows board reach (record { square = square; dir = d })) → AreAllowedBefore board reach square (seen + 1) ps
+      → ¬ (AllowsPush board reach (record { square = square; dir = d })) → AreAllowedBefore board reach square (seen + 1) ps
   before_same ps seen d at all cannot = all_same _ _ ps all
       (λ p h. (h.0, elim h.1 [ inl lt ↦ inl lt | inr e ↦ inr (e.0, omega (arith, e.1)) ]))
       (λ p h. (
@@ -99,7 +99,7 @@ module _ (board : Board) (reach : Reach) (square : ℕ) where
           | inr e ↦ elim (cases_lt (dir_number p.dir) seen) [
             | inl lt ↦ inr (e.0, lt)
             | inr le ↦ absurd (let f = dir_same p.dir d (omega (arith, e.1, le, at)) in
-                cannot (subst (Allows board reach) (λ i. record { square = e.0 i; dir = f i }) h.0))
+                cannot (subst (AllowsPush board reach) (λ i. record { square = e.0 i; dir = f i }) h.0))
           ]
         ],
       ))

@@ -97,36 +97,36 @@ next_other board q R columns lt = λ e. let f = (right_is board q lt).1 in omega
 next_other board q U columns lt = λ e. let f = next_above board q lt in omega (arith, columns, e, f)
 
 -- the next squares in two directions across each other are not the same
-abbrev pub IsApart : Board → Dir → Dir → Type 0
-IsApart board d e = (q : ℕ) → next board q d < length board.cells → next board q e < length board.cells
+abbrev pub GoApart : Board → Dir → Dir → Type 0
+GoApart board d e = (q : ℕ) → next board q d < length board.cells → next board q e < length board.cells
     → next board q d ≢ next board q e
 
-turned : (board : Board) (d e : Dir) → IsApart board d e → IsApart board e d
+turned : (board : Board) (d e : Dir) → GoApart board d e → GoApart board e d
 turned board d e apart q f g same = apart q g f (sym same)
 
-pub next_apart : (board : Board) → 1 ≤ board.cols → (d e : Dir) → IsAcross d e → IsApart board d e
-next_apart board columns = crossed (IsApart board) down_left down_right (turned board D L down_left)
+pub next_apart : (board : Board) → 1 ≤ board.cols → (d e : Dir) → IsAcross d e → GoApart board d e
+next_apart board columns = crossed (GoApart board) down_left down_right (turned board D L down_left)
     (turned board U L up_left) (turned board D R down_right)
     (turned board U R up_right) up_left up_right
   where
-    down_left : IsApart board D L
+    down_left : GoApart board D L
     down_left q f g e = let a = next_below board q f in let b = (left_is board q g).1 in omega (arith, columns, e, a, b)
 
-    down_right : IsApart board D R
+    down_right : GoApart board D R
     down_right q f g e =
         let a = next_below board q f in
         let b = right_is board q g in
         let h = b.1 in
         narrow board.cols (suc q) (omega (arith, e, a, h)) b.0
 
-    up_left : IsApart board U L
+    up_left : GoApart board U L
     up_left q f g e =
         let a = next_above board q f in
         let b = left_is board q g in
         let h = b.1 in
         narrow board.cols q (omega (arith, e, a, h)) b.0
 
-    up_right : IsApart board U R
+    up_right : GoApart board U R
     up_right q f g e = let a = next_above board q f in let b = (right_is board q g).1 in omega (arith, columns, e, a, b)
 
 -- one comes to the same square by a step in one direction and one across, in either order

@@ -4,7 +4,7 @@ use Rattle.std.proofs.lemmas.Bool.{cases_eq, cases_lt}
 use Rattle.grid.specs.declared.dir.Dir.{Dir}
 use Rattle.grid.specs.Board.{Board, is_wall, next, dir_number}
 use Rattle.grid.proofs.lemmas.Directions.{dir_number-lt, more_dirs}
-use Rattle.area.specs.inside.Spread.{IsClosed, HasCome, IsSpread, IsSpreading}
+use Rattle.area.specs.inside.Spread.{ReachesNext, HasCome, IsSpread, IsSpreading}
 
 module _ (board : Board) (base from : ℕ) (mark place : ℕ → ℕ) (head seen tail : ℕ) (d : Dir) (n : ℕ)
     (s : IsSpreading board base from mark place head seen tail)
@@ -23,7 +23,7 @@ module _ (board : Board) (base from : ℕ) (mark place : ℕ → ℕ) (head seen
     done = s.done;
     now = λ e lt. elim (more_dirs seen d e at lt) [
       | inl less ↦ s.now e less
-      | inr same ↦ subst (λ (x : Dir). IsClosed board base mark (place head) x) same closed
+      | inr same ↦ subst (λ (x : Dir). ReachesNext board base mark (place head) x) same closed
     ];
     order = s.order;
   }
@@ -36,7 +36,7 @@ module _ (board : Board) (base from : ℕ) (mark place : ℕ → ℕ) (head seen
           let c : mark (place l.0) ≤ suc (mark (place head)) = s.close head l.0 (omega arith) here l.1 in
           (lt, subst (λ (x : ℕ). mark x ≤ suc (mark (place head))) l.2 c)
 
-      closed : IsClosed board base mark (place head) d
+      closed : ReachesNext board base mark (place head) d
       closed = subst (λ (x : ℕ). is_wall board x ≡ false → mark x ≢ base → (base < mark x)
           × (mark x ≤ suc (mark (place head)))) (sym is) closed_at
 
@@ -71,7 +71,7 @@ module _ (board : Board) (base from : ℕ) (mark place : ℕ → ℕ) (head seen
       | inr at_least ↦ inr (omega arith)
     ]
 
-    keeps : (q : ℕ) (e : Dir) → base < mark q → IsClosed board base mark q e → IsClosed board base mark' q e
+    keeps : (q : ℕ) (e : Dir) → base < mark q → ReachesNext board base mark q e → ReachesNext board base mark' q e
     keeps q e lt closed clear' unblocked = elim (cases_eq (next board q e) n) [
       | inl same ↦
           -- the square that is marked now was no box's and not reached, so it can't have been closed off
@@ -167,12 +167,12 @@ module _ (board : Board) (base from : ℕ) (mark place : ℕ → ℕ) (head seen
                   ∙ new_place in omega arith)
             ])
       ];
-      done = λ i before lt e. subst (λ (x : ℕ). IsClosed board base mark' x e) (sym (stays i (omega arith)))
+      done = λ i before lt e. subst (λ (x : ℕ). ReachesNext board base mark' x e) (sym (stays i (omega arith)))
           (keeps (place i) e (s.queued i (omega arith)) (s.done i before (omega arith) e));
       now = λ e lt. elim (more_dirs seen d e at lt) [
-        | inl less ↦ subst (λ (x : ℕ). IsClosed board base mark' x e) (sym (stays head here))
+        | inl less ↦ subst (λ (x : ℕ). ReachesNext board base mark' x e) (sym (stays head here))
             (keeps (place head) e above (s.now e less))
-        | inr same ↦ subst (λ (x : Dir). IsClosed board base mark' (place' head) x) same closed
+        | inr same ↦ subst (λ (x : Dir). ReachesNext board base mark' (place' head) x) same closed
       ];
       order = let o = s.order in omega arith;
     }
@@ -184,14 +184,14 @@ module _ (board : Board) (base from : ℕ) (mark place : ℕ → ℕ) (head seen
             let b : base < mark (place head) = above in
             (omega arith, omega arith)
 
-        closed_here : IsClosed board base mark' (place head) d
+        closed_here : ReachesNext board base mark' (place head) d
         closed_here = subst (λ (x : ℕ). is_wall board x ≡ false → mark' x ≢ base → (base < mark' x) ×
             (mark' x ≤ suc (mark' (place head)))) (sym is)
             (subst (λ (x : ℕ). is_wall board n ≡ false → mark' n ≢ base → (base < mark' n) ×
             (mark' n ≤ suc (mark' x))) (stays head here) closed_at)
 
-        closed : IsClosed board base mark' (place' head) d
-        closed = subst (λ (x : ℕ). IsClosed board base mark' x d) (sym (stays head here)) closed_here
+        closed : ReachesNext board base mark' (place' head) d
+        closed = subst (λ (x : ℕ). ReachesNext board base mark' x d) (sym (stays head here)) closed_here
 
 -- the square at the head was looked round from: the next is at the head
 pub turned : (board : Board) (base from : ℕ) (mark place : ℕ → ℕ) (head tail : ℕ)
@@ -208,7 +208,7 @@ turned board base from mark place head tail s here = record {
   close = λ i j low lt lt'. s.close i j (omega arith) lt lt';
   done = λ i before lt e. elim (cases_lt i head) [
     | inl less ↦ s.done i less lt e
-    | inr at_least ↦ subst (λ (x : ℕ). IsClosed board base mark (place x) e) (let f : head ≡ i = omega arith in
+    | inr at_least ↦ subst (λ (x : ℕ). ReachesNext board base mark (place x) e) (let f : head ≡ i = omega arith in
         f) (s.now e (dir_number-lt e))
   ];
   now = λ e lt. absurd (omega arith);
@@ -225,5 +225,5 @@ finished board base from mark place head tail s all = record {
   came = s.came;
   closed = λ q lt e. (let l = s.listed q lt in
       let lt' : l.0 < tail = l.1 in
-      subst (λ (x : ℕ). IsClosed board base mark x e) l.2 (s.done l.0 (omega arith) l.1 e));
+      subst (λ (x : ℕ). ReachesNext board base mark x e) l.2 (s.done l.0 (omega arith) l.1 e));
 }

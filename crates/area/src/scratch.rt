@@ -37,9 +37,9 @@ impl Model for Scratch {
 
     ghost Value = { Reach };
 
-    ghost use Rattle.area.specs.inside.ScratchView.{view_of, IsReady};
+    ghost use Rattle.area.specs.inside.ScratchView.{scratch_view, IsReady};
 
-    ghost view = { view_of };
+    ghost view = { scratch_view };
 
     ghost invariant = { IsReady };
 }

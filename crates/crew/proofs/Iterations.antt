@@ -31,11 +31,11 @@ pub goes_on : (config : Config) (s : SearchView) (layer : LayerView) (after : Li
     ArePausedBy config (with_layer s layer) after
 goes_on config s layer after next (before, dealt, working, (done, still, closed)) =
     Solo.goes_on s (config.workers + 1) config.locks done after layer next
-    (still_dealt s.task s.limit (config.workers + 1) config.locks layer before done dealt still) (still_working layer before done working still) closed
+    (still_dealt s.problem s.limit (config.workers + 1) config.locks layer before done dealt still) (still_working layer before done working still) closed
 
 -- or they pass the limit together, and the answer is the limit
 pub ends_over : (config : Config) (s : SearchView) (layer : LayerView) (after : List BookView) → IsWithinLimits config → IsNextLayer s layer →
-    IsExamined s layer → AreWorkedBy config s layer false after → IsAnswer s.task s.limit Limit
+    IsExamined s layer → AreWorkedBy config s layer false after → IsAnswer s.problem s.limit Limit
 ends_over config s layer after limits next examined (before, dealt, working, (still, passed)) =
     together_limit s (config.workers + 1) config.locks after layer limits.locks.0 next examined
-    (still_dealt s.task s.limit (config.workers + 1) config.locks layer before after dealt still) (still_working layer before after working still) passed
+    (still_dealt s.problem s.limit (config.workers + 1) config.locks layer before after dealt still) (still_working layer before after working still) passed

@@ -8,8 +8,8 @@ use Rattle.crew.specs.declared.config.Config.{Config}
 use Rattle.crew.specs.Lending.{ComeBack}
 
 -- they are all the shares of the search's level, at work on the layer
-pub come_dealt : (config : Config) (s : SearchView) (layer : LayerView) (books : List BookView) → layer.level ≡ s.task → s.limit ≡ config.limit →
-    ComeBack config layer books → AreDealt s.task s.limit (config.workers + 1) config.locks books × AreWorkingOn layer books
+pub come_dealt : (config : Config) (s : SearchView) (layer : LayerView) (books : List BookView) → layer.level ≡ s.problem → s.limit ≡ config.limit →
+    ComeBack config layer books → AreDealt s.problem s.limit (config.workers + 1) config.locks books × AreWorkingOn layer books
 come_dealt config s layer books level limit come = (
   record {
     all = come.all;

@@ -30,7 +30,7 @@ pub(crate) fn finish_all<R: Threads + Sync>(
     layer: &Layer,
     search: &mut Search<'_>,
 ) -> Result<bool, AllocError>
-    requires level { layer.now.level ≡ search.old.task }
+    requires level { layer.now.level ≡ search.old.problem }
     requires few { length books.old ≤ MAX_SHARES }
     requires working { AreWorkingOn layer.now books.old }
     requires worker { (i : ℕ) (v : BookView) → slice_get books.old i ≡ Some v → config.workers < v.workers }

@@ -37,11 +37,11 @@ pub(crate) struct Desks<'a> {
 
 impl<'a> Model for Desks<'a> {
     ghost use Rattle.std.specs.Prelude.{◌≤◌, length};
-    ghost use Rattle.successors.specs.Tasks.{Task};
+    ghost use Rattle.successors.specs.Problems.{Problem};
     ghost use Rattle.claims.specs.declared.ledger.TheConstants.{PLACES};
     ghost use Rattle.crew.specs.inside.Desks.{AreRoomy};
 
-    ghost Value = { Task };
+    ghost Value = { Problem };
 
     ghost view = { λ a. a.problem.now };
 

@@ -72,7 +72,7 @@ fn work_through<R: Threads + Wait + Sync, G: Gate + Sync>(
 ) -> Result<Option<(bool, Vec<Book>)>, AllocError>
     requires limits { IsWithinLimits settings.now.config }
     requires state { IsStateOf settings.now.config state.old }
-    requires level { layer.now.level ≡ state.old.search.task }
+    requires level { layer.now.level ≡ state.old.search.problem }
     requires examined { IsExamined state.old.search layer.now }
     requires may { (i : ℕ) (v : BookView) → slice_get books.items i ≡ Some v → MayBegin v layer.now }
     ensures worked { IfOk result (λ back. IfSome back
@@ -95,7 +95,7 @@ fn finish_lent<R: Threads + Sync>(
     search: &mut Search<'_>,
 ) -> Result<Option<(bool, Vec<Book>)>, AllocError>
     requires limits { IsWithinLimits config }
-    requires level { layer.now.level ≡ search.old.task }
+    requires level { layer.now.level ≡ search.old.problem }
     requires limit { search.old.limit ≡ config.limit }
     ensures others { ¬ (ComeBack config layer.now back.items) → result ≡ Ok None }
     ensures own { ComeBack config layer.now back.items → IfOk result IsSome }

@@ -114,7 +114,7 @@ fn iterate_all<R: Threads + Wait + Sync, G: Gate + Sync>(
     requires first { ArePausedBy settings.now.config state.search first.items }
     requires state { IsStateOf settings.now.config state }
     ensures { IfOk result
-        (λ found. IfSome found (λ answer. IsAnswer state.entry.search.task state.entry.search.limit answer)) }
+        (λ found. IfSome found (λ answer. IsAnswer state.entry.search.problem state.entry.search.limit answer)) }
 {
     let mut books = first;
     loop {

@@ -8,16 +8,16 @@ use Rattle.grid.specs.Board.{Scene}
 use Rattle.grid.specs.Squares.{Squares}
 
 -- four squares in one word, each above those before it
-abbrev pub packed : ℕ → ℕ → ℕ → ℕ → ℕ
-packed a b c d = a + b * 2 ^ 16 + c * 2 ^ 32 + d * 2 ^ 48
+abbrev pub word_of : ℕ → ℕ → ℕ → ℕ → ℕ
+word_of a b c d = a + b * 2 ^ 16 + c * 2 ^ 32 + d * 2 ^ 48
 
 -- the squares by fours, and then those that are left over, with the player after them
 abbrev pub words_of : Squares → ℕ → List ℕ
-words_of [] player = packed player 0 0 0 ∷ []
-words_of (a ∷ []) player = packed a player 0 0 ∷ []
-words_of (a ∷ b ∷ []) player = packed a b player 0 ∷ []
-words_of (a ∷ b ∷ c ∷ []) player = packed a b c player ∷ []
-words_of (a ∷ b ∷ c ∷ d ∷ others) player = packed a b c d ∷ words_of others player
+words_of [] player = word_of player 0 0 0 ∷ []
+words_of (a ∷ []) player = word_of a player 0 0 ∷ []
+words_of (a ∷ b ∷ []) player = word_of a b player 0 ∷ []
+words_of (a ∷ b ∷ c ∷ []) player = word_of a b c player ∷ []
+words_of (a ∷ b ∷ c ∷ d ∷ others) player = word_of a b c d ∷ words_of others player
 
 -- the words of the boxes and the player, each written at once
 abbrev pub writes_of_squares : Squares → ℕ → fed.HashWrites

@@ -1,5 +1,5 @@
 ghost use Rattle.std.specs.Prelude.{◌≡◌, ◌<◌, ◌++◌, [], ◌∷◌, fold, length};
-ghost use Rattle.grid.specs.Hashing.{packed, words_of, writes_of_squares};
+ghost use Rattle.grid.specs.Hashing.{word_of, words_of, writes_of_squares};
 
 use crate::position::Position;
 use crate::square::Square;
@@ -25,7 +25,7 @@ fn hash_squares<H: Hasher>(mut boxes: &[Square], player: Square, state: &mut H)
     ensures { state.new ≡ fold H.write state.old (writes_of_squares boxes.now player) }
 {
     while let [a, b, c, d, others @ ..] = boxes {
-        state.write_u64(packed(*a, *b, *c, *d));
+        state.write_u64(word_of(*a, *b, *c, *d));
         boxes = others;
     }
     state.write_u64(last_word(boxes, player));
@@ -38,17 +38,17 @@ fn last_word(squares: &[Square], player: Square) -> u64
     ensures { result ∷ [] ≡ words_of squares.now player }
 {
     match squares {
-        [] => packed(player, Square(0), Square(0), Square(0)),
-        [a] => packed(*a, player, Square(0), Square(0)),
-        [a, b] => packed(*a, *b, player, Square(0)),
-        [a, b, c, ..] => packed(*a, *b, *c, player),
+        [] => word_of(player, Square(0), Square(0), Square(0)),
+        [a] => word_of(*a, player, Square(0), Square(0)),
+        [a, b] => word_of(*a, *b, player, Square(0)),
+        [a, b, c, ..] => word_of(*a, *b, *c, player),
     }
 }
 
 // Four squares in one word, the first one lowest.
 #[inline]
-fn packed(a: Square, b: Square, c: Square, d: Square) -> u64
-    ensures { result ≡ packed a b c d }
+fn word_of(a: Square, b: Square, c: Square, d: Square) -> u64
+    ensures { result ≡ word_of a b c d }
 {
     u64::from(a.0) | u64::from(b.0) << 16 | u64::from(c.0) << 32 | u64::from(d.0) << 48
 }

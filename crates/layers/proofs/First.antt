@@ -15,8 +15,8 @@ use Rattle.grid.proofs.lemmas.Plays.{play_first, walk_keeps_boxes}
 use Rattle.area.specs.Area.{IsNorm}
 use Rattle.doom.specs.Deadlocks.{Doomed, Undoomed}
 use Rattle.successors.specs.Layered.{IsLead}
-use Rattle.store.specs.Entries.{Origin, Entry, Closed}
-use Rattle.successors.specs.Tasks.{Task}
+use Rattle.store.specs.Entries.{Origin, OpenEntry, Closed}
+use Rattle.successors.specs.Problems.{Problem}
 use Rattle.successors.specs.Capping.{Admits}
 use Rattle.successors.specs.Reaching.{Reaches}
 use Rattle.successors.specs.Shares.{share_of}
@@ -38,10 +38,10 @@ no_later [] = refl
 no_later (q ∷ qs) = shortlex_shorter push_cmp [] (q ∷ qs) (omega arith)
 
 -- the start's normal position is layer 0 of its own share
-pub first_layer : (task : Task) → IsLevel task.board → (shares share : ℕ) (n : Scene) → Undoomed task.board (start task.board) →
-    IsNorm task.board (start task.board) n → FitsLevel task.board n → Admits task 0 n → share_of shares n ≡ share →
-    IsShareOfLayer task shares share 0 ((n, None) ∷ [])
-first_layer task level shares share n safe norm fits adm own = record {
+pub first_layer : (problem : Problem) → IsLevel problem.board → (shares share : ℕ) (n : Scene) → Undoomed problem.board (start problem.board) →
+    IsNorm problem.board (start problem.board) n → FitsLevel problem.board n → Admits problem 0 n → share_of shares n ≡ share →
+    IsShareOfLayer problem shares share 0 ((n, None) ∷ [])
+first_layer problem level shares share n safe norm fits adm own = record {
   layer = record {
     leads = λ r m at. leads r m at;
     rise = λ r s m l ps qs lt at_r at_s. absurd (past r s l lt at_s);
@@ -51,17 +51,17 @@ first_layer task level shares share n safe norm fits adm own = record {
   fits = λ i m o at. fit i m o at;
 }
   where
-    here : Reaches task.board [] n
-    here = ([], start task.board, stay safe, norm)
+    here : Reaches problem.board [] n
+    here = ([], start problem.board, stay safe, norm)
 
-    lead : IsLead push_cmp (Reaches task.board) n []
+    lead : IsLead push_cmp (Reaches problem.board) n []
     lead = record { reached = here; least = λ qs reach. no_later qs }
 
-    leads : (r : ℕ) (m : Scene) → slice_get (n ∷ []) r ≡ Some m → ((share_of shares m ≡ share) × Admits task 0 m)
-        × ((ps : List Push) × IsLead push_cmp (Reaches task.board) m ps × (length ps ≡ 0))
+    leads : (r : ℕ) (m : Scene) → slice_get (n ∷ []) r ≡ Some m → ((share_of shares m ≡ share) × Admits problem 0 m)
+        × ((ps : List Push) × IsLead push_cmp (Reaches problem.board) m ps × (length ps ≡ 0))
     leads zero m at = (
-      (ap (share_of shares) (sym (same_Some n m at)) ∙ own, subst (Admits task 0) (same_Some n m at) adm),
-      ([], subst (λ x. IsLead push_cmp (Reaches task.board) x []) (same_Some n m at) lead, refl),
+      (ap (share_of shares) (sym (same_Some n m at)) ∙ own, subst (Admits problem 0) (same_Some n m at) adm),
+      ([], subst (λ x. IsLead push_cmp (Reaches problem.board) x []) (same_Some n m at) lead, refl),
     )
     leads (suc r) m at = absurd (none-some m at)
 
@@ -69,22 +69,22 @@ first_layer task level shares share n safe norm fits adm own = record {
     past r zero l lt at = omega arith
     past r (suc s) l lt at = none-some l at
 
-    same : (ps : List Push) (m : Scene) → Reaches task.board ps m → length ps ≡ 0 → n ≡ m
-    same [] m reach long = (level_laws task level).same [] n m here reach
+    same : (ps : List Push) (m : Scene) → Reaches problem.board ps m → length ps ≡ 0 → n ≡ m
+    same [] m reach long = (level_laws problem level).same [] n m here reach
     same (p ∷ ps) m reach long = absurd (omega arith)
 
     origin : (i : ℕ) (m : Scene) (o : Option (Origin Push)) → slice_get {X = Closed} ((n, None) ∷ []) i ≡ Some (m, o) → o ≡ None
     origin zero m o at = sym (ap (λ (x : Closed). x.1) (same_Some (n, None) (m, o) at))
     origin (suc i) m o at = absurd (none-some (m, o) at)
 
-    fit : (i : ℕ) (m : Scene) (o : Option (Origin Push)) → slice_get {X = Closed} ((n, None) ∷ []) i ≡ Some (m, o) → FitsLevel task.board m
-    fit zero m o at = subst (FitsLevel task.board) (ap (λ (x : Closed). x.0) (same_Some (n, None) (m, o) at)) fits
+    fit : (i : ℕ) (m : Scene) (o : Option (Origin Push)) → slice_get {X = Closed} ((n, None) ∷ []) i ≡ Some (m, o) → FitsLevel problem.board m
+    fit zero m o at = subst (FitsLevel problem.board) (ap (λ (x : Closed). x.0) (same_Some (n, None) (m, o) at)) fits
     fit (suc i) m o at = absurd (none-some (m, o) at)
 
 -- layer 0 of another share is empty
-pub other_layer : (task : Task) → IsLevel task.board → (shares share : ℕ) (n : Scene) → Undoomed task.board (start task.board) →
-    IsNorm task.board (start task.board) n → ¬ (share_of shares n ≡ share) → IsShareOfLayer task shares share 0 []
-other_layer task level shares share n safe norm other = record {
+pub other_layer : (problem : Problem) → IsLevel problem.board → (shares share : ℕ) (n : Scene) → Undoomed problem.board (start problem.board) →
+    IsNorm problem.board (start problem.board) n → ¬ (share_of shares n ≡ share) → IsShareOfLayer problem shares share 0 []
+other_layer problem level shares share n safe norm other = record {
   layer = record {
     leads = λ r m at. absurd (none-some m at);
     rise = λ r s m l ps qs lt at_r at_s. absurd (none-some m at_r);
@@ -94,13 +94,13 @@ other_layer task level shares share n safe norm other = record {
   fits = λ i m o at. absurd (none-some (m, o) at);
 }
   where
-    same : (ps : List Push) (m : Scene) → Reaches task.board ps m → length ps ≡ 0 → n ≡ m
-    same [] m reach long = (level_laws task level).same [] n m ([], start task.board, stay safe, norm) reach
+    same : (ps : List Push) (m : Scene) → Reaches problem.board ps m → length ps ≡ 0 → n ≡ m
+    same [] m reach long = (level_laws problem level).same [] n m ([], start problem.board, stay safe, norm) reach
     same (p ∷ ps) m reach long = absurd (omega arith)
 
 -- where the start is doomed layer 0 is empty
-pub doomed_layer : (task : Task) (shares share : ℕ) → Doomed task.board (start task.board).boxes → IsShareOfLayer task shares share 0 []
-doomed_layer task shares share doomed = record {
+pub doomed_layer : (problem : Problem) (shares share : ℕ) → Doomed problem.board (start problem.board).boxes → IsShareOfLayer problem shares share 0 []
+doomed_layer problem shares share doomed = record {
   layer = record {
     leads = λ r m at. absurd (none-some m at);
     rise = λ r s m l ps qs lt at_r at_s. absurd (none-some m at_r);
@@ -111,41 +111,41 @@ doomed_layer task shares share doomed = record {
 }
 
 -- and where the start is not admitted
-barred_layer : (task : Task) → IsLevel task.board → (shares share : ℕ) → ¬ (Admits task 0 (start task.board)) → IsShareOfLayer task shares share 0 []
-barred_layer task level shares share barred = record {
+barred_layer : (problem : Problem) → IsLevel problem.board → (shares share : ℕ) → ¬ (Admits problem 0 (start problem.board)) → IsShareOfLayer problem shares share 0 []
+barred_layer problem level shares share barred = record {
   layer = record {
     leads = λ r m at. absurd (none-some m at);
     rise = λ r s m l ps qs lt at_r at_s. absurd (none-some m at_r);
-    whole = λ ps m reach long part. absurd (barred (admitted_alike task 0 m (start task.board) (unmoved ps m reach long) part.1));
+    whole = λ ps m reach long part. absurd (barred (admitted_alike problem 0 m (start problem.board) (unmoved ps m reach long) part.1));
   };
   origins = λ i m o at. absurd (none-some (m, o) at);
   fits = λ i m o at. absurd (none-some (m, o) at);
 }
   where
-    unmoved : (ps : List Push) (m : Scene) → Reaches task.board ps m → length ps ≡ 0 → m.boxes ≡ (start task.board).boxes
+    unmoved : (ps : List Push) (m : Scene) → Reaches problem.board ps m → length ps ≡ 0 → m.boxes ≡ (start problem.board).boxes
     unmoved [] m (ds, t, play, norm) long = norm.boxes ∙ walk_keeps_boxes play
     unmoved (p ∷ ps) m reach long = absurd (omega arith)
 
 -- layer 0 of a share by the first position of the level
-pub share_without : (task : Task) → IsLevel task.board → (shares share : ℕ) (first : Option Scene) → IsFirst task first → first ≡ None →
-    IsShareOfLayer task shares share 0 []
-share_without task level shares share first is none = by (subst (IsFirst task) none is)
+pub share_without : (problem : Problem) → IsLevel problem.board → (shares share : ℕ) (first : Option Scene) → IsFirst problem first → first ≡ None →
+    IsShareOfLayer problem shares share 0 []
+share_without problem level shares share first is none = by (subst (IsFirst problem) none is)
   where
-    by : IsFirst task None → IsShareOfLayer task shares share 0 []
-    by (inl doomed) = doomed_layer task shares share doomed
-    by (inr barred) = barred_layer task level shares share barred
+    by : IsFirst problem None → IsShareOfLayer problem shares share 0 []
+    by (inl doomed) = doomed_layer problem shares share doomed
+    by (inr barred) = barred_layer problem level shares share barred
 
-pub share_with : (task : Task) → IsLevel task.board → (shares share : ℕ) (first : Option Scene) (m : Scene) → IsFirst task first → first ≡ Some m →
-    share_of shares m ≡ share → IsShareOfLayer task shares share 0 ((m, None) ∷ [])
-share_with task level shares share first m is some own =
-    let w : IsFirst task (Some m) = subst (IsFirst task) some is in
-    first_layer task level shares share m w.0 w.1 w.2 w.3 own
+pub share_with : (problem : Problem) → IsLevel problem.board → (shares share : ℕ) (first : Option Scene) (m : Scene) → IsFirst problem first → first ≡ Some m →
+    share_of shares m ≡ share → IsShareOfLayer problem shares share 0 ((m, None) ∷ [])
+share_with problem level shares share first m is some own =
+    let w : IsFirst problem (Some m) = subst (IsFirst problem) some is in
+    first_layer problem level shares share m w.0 w.1 w.2 w.3 own
 
-pub share_beside : (task : Task) → IsLevel task.board → (shares share : ℕ) (first : Option Scene) (m : Scene) → IsFirst task first → first ≡ Some m →
-    ¬ (share_of shares m ≡ share) → IsShareOfLayer task shares share 0 []
-share_beside task level shares share first m is some other =
-    let w : IsFirst task (Some m) = subst (IsFirst task) some is in
-    other_layer task level shares share m w.0 w.1 other
+pub share_beside : (problem : Problem) → IsLevel problem.board → (shares share : ℕ) (first : Option Scene) (m : Scene) → IsFirst problem first → first ≡ Some m →
+    ¬ (share_of shares m ≡ share) → IsShareOfLayer problem shares share 0 []
+share_beside problem level shares share first m is some other =
+    let w : IsFirst problem (Some m) = subst (IsFirst problem) some is in
+    other_layer problem level shares share m w.0 w.1 other
 
 pub first_few : (m : Option Scene) → length (first_entries m) ≤ 1
 first_few None = omega arith
@@ -156,9 +156,9 @@ none_summed zero = refl
 none_summed (suc n) = omega (arith, sum_by_first (λ (x : ℕ). x) 0 (replicate n 0), none_summed n)
 
 -- a new book is lawful
-pub lawful_new : (task : Task) (limit workers share shares : ℕ) (es : List Closed) → IsLevel task.board → AreBounds limit workers share shares →
-    IsShareOfLayer task shares share 0 es → length es ≤ limit → IsLawfulBook (record {
-      level = task;
+pub lawful_new : (problem : Problem) (limit workers share shares : ℕ) (es : List Closed) → IsLevel problem.board → AreBounds limit workers share shares →
+    IsShareOfLayer problem shares share 0 es → length es ≤ limit → IsLawfulBook (record {
+      level = problem;
       limit = limit;
       workers = workers;
       share = share;
@@ -171,7 +171,7 @@ pub lawful_new : (task : Task) (limit workers share shares : ℕ) (es : List Clo
       tallies = replicate workers 0;
       over = false;
     })
-lawful_new task limit workers share shares es level bounds layer few = record {
+lawful_new problem limit workers share shares es level bounds layer few = record {
   level = level;
   bounds = bounds;
   some = omega arith;
@@ -189,8 +189,8 @@ lawful_new task limit workers share shares es level bounds layer few = record {
   over = λ e. cc;
 }
   where
-    closed : (k : ℕ) (xs : List Closed) → slice_get (es ∷ []) k ≡ Some xs → IsShareOfLayer task shares share k xs
-    closed zero xs at = subst (IsShareOfLayer task shares share 0) (same_Some es xs at) layer
+    closed : (k : ℕ) (xs : List Closed) → slice_get (es ∷ []) k ≡ Some xs → IsShareOfLayer problem shares share k xs
+    closed zero xs at = subst (IsShareOfLayer problem shares share 0) (same_Some es xs at) layer
     closed (suc k) xs at = absurd (none-some xs at)
 
 drop_none : {A : Type 0} (xs : List A) → drop 0 xs ≡ xs
@@ -199,13 +199,13 @@ drop_none (x ∷ xs) = refl
 
 -- ---- a new book, on the fields
 
-module _ (task : Task) (limit workers share shares : ℕ) (starts tallies : List ℕ) (es : List Closed) (claimed done : List Bool)
-    (waiting : List (Entry Scene Push)) (layer : IsShareOfLayer task shares share 0 es × (length es ≤ 1))
+module _ (problem : Problem) (limit workers share shares : ℕ) (starts tallies : List ℕ) (es : List Closed) (claimed done : List Bool)
+    (waiting : List (OpenEntry Scene Push)) (layer : IsShareOfLayer problem shares share 0 es × (length es ≤ 1))
     (starts_are : starts ≡ replicate 1 0) (tallies_are : tallies ≡ replicate workers 0) (no_claims : claimed ≡ []) (none_done : done ≡ [])
     (none_waits : waiting ≡ []) where
   abbrev fresh : BookView
   fresh = record {
-    level = task;
+    level = problem;
     limit = limit;
     workers = workers;
     share = share;
@@ -222,10 +222,10 @@ module _ (task : Task) (limit workers share shares : ℕ) (starts tallies : List
   closed_is : cut_at starts es ≡ es ∷ []
   closed_is = ap (λ s. cut_at s es) starts_are ∙ ap (λ xs. xs ∷ []) (drop_none es)
 
-  pub fresh_lawful : IsLevel task.board → AreBounds limit workers share shares → IsLawfulBook fresh
+  pub fresh_lawful : IsLevel problem.board → AreBounds limit workers share shares → IsLawfulBook fresh
   fresh_lawful level bounds = subst IsLawfulBook
       (λ i. record {
-        level = task;
+        level = problem;
         limit = limit;
         workers = workers;
         share = share;
@@ -237,7 +237,7 @@ module _ (task : Task) (limit workers share shares : ℕ) (starts tallies : List
         waiting = sym none_waits i;
         tallies = sym tallies_are i;
         over = false;
-      }) (lawful_new task limit workers share shares es level bounds layer.0 (omega (arith, layer.1, bounds.limits.0)))
+      }) (lawful_new problem limit workers share shares es level bounds layer.0 (omega (arith, layer.1, bounds.limits.0)))
 
   pub fresh_cuts : AreCuts starts (length es)
   fresh_cuts = subst (λ s. AreCuts s (length es)) (sym starts_are)
@@ -246,7 +246,7 @@ module _ (task : Task) (limit workers share shares : ℕ) (starts tallies : List
         within zero p at = omega (arith, same_Some 0 p at)
         within (suc j) p at = absurd (none-some p at)
 
-  pub fresh_new : IsNewBook task limit workers share shares fresh
+  pub fresh_new : IsNewBook problem limit workers share shares fresh
   fresh_new = record {
     made_with = (refl, refl, refl, refl, refl);
     closed = (es, closed_is, layer.0);
@@ -257,9 +257,9 @@ module _ (task : Task) (limit workers share shares : ℕ) (starts tallies : List
   }
 
 -- ---- new books, one share after the other
-pub one_share_more : (task : Task) (limit workers share shares : ℕ) (books : List BookView) (book : BookView) → length books ≡ share →
-    AreNewInOrder task limit workers shares books → IsNewBook task limit workers share shares book → AreNewInOrder task limit workers shares (books ++ book ∷ [])
-one_share_more task limit workers share shares books book long before last = λ i v at. elim (at-push books book i v at) [
+pub one_share_more : (problem : Problem) (limit workers share shares : ℕ) (books : List BookView) (book : BookView) → length books ≡ share →
+    AreNewInOrder problem limit workers shares books → IsNewBook problem limit workers share shares book → AreNewInOrder problem limit workers shares (books ++ book ∷ [])
+one_share_more problem limit workers share shares books book long before last = λ i v at. elim (at-push books book i v at) [
   | inl old ↦ before i v old
-  | inr new ↦ subst (λ k. IsNewBook task limit workers k shares v) (sym (new.0 ∙ long)) (subst (IsNewBook task limit workers share shares) (sym new.1) last)
+  | inr new ↦ subst (λ k. IsNewBook problem limit workers k shares v) (sym (new.0 ∙ long)) (subst (IsNewBook problem limit workers share shares) (sym new.1) last)
 ]

@@ -8,7 +8,7 @@ use Rattle.std.specs.declared.cmp.Ordering.TheVariants.{Less}
 use Rattle.std.specs.Cmp.Lexicographic.{slice_cmp}
 use Rattle.grid.specs.declared.square.Push.{Push}
 use Rattle.grid.specs.Board.{Scene, push_cmp}
-use Rattle.successors.specs.Tasks.{Task}
+use Rattle.successors.specs.Problems.{Problem}
 use Rattle.grid.specs.Lawful.{IsLevel}
 use Rattle.layers.specs.declared.fault.Refusal.{Refusal}
 use Rattle.layers.specs.declared.fault.Refusal.TheVariants.{OtherLevel, OtherLayer, NoSuchRank, Double, Over, OutOfMemory}
@@ -18,8 +18,8 @@ use Rattle.layers.specs.Origins.{HasOrigin}
 use Rattle.successors.specs.ParcelView.{ParcelView, IsParcel}
 use Rattle.layers.specs.BookView.{BookView, HasClosedOrigin, IsShareOfLayer, AreBounds, IsLawfulBook}
 use Rattle.layers.specs.Books.{IsNewBook, HandBackRefused, after_refusal, with_closed}
-use Rattle.layers.specs.Events.{Event, Happens, History, AreMadeAlike, KeepsClosed, CloseAlike}
-use Rattle.layers.specs.Events.Event.{begins, begin_refused, claims, hands_back, hand_back_refused, reopens, closes, close_refused}
+use Rattle.layers.specs.Events.{BookEvent, Happens, History, AreMadeAlike, KeepsClosed, CloseAlike}
+use Rattle.layers.specs.Events.BookEvent.{begins, begin_refused, claims, hands_back, hand_back_refused, reopens, closes, close_refused}
 use Rattle.layers.specs.Events.History.{nothing, event}
 use Rattle.layers.proofs.lemmas.Books.{level_laws, read_at, same_places}
 use Rattle.layers.proofs.lemmas.BookEvents.{lawful_begin, lawful_claim, lawful_parcel, lawful_over, lawful_reopen, lawful_closed}
@@ -39,7 +39,7 @@ refused_lawful v parcel Double book is why = book
 refused_lawful v parcel Over book is why = lawful_over v parcel book is why.0 why.1 why.2
 refused_lawful v parcel OutOfMemory book is why = book
 
-happens_lawful : (v : BookView) (e : Event) (w : BookView) → IsLawfulBook v → Happens v e w → IsLawfulBook w
+happens_lawful : (v : BookView) (e : BookEvent) (w : BookView) → IsLawfulBook v → Happens v e w → IsLawfulBook w
 happens_lawful v (begins layer) w book did = subst IsLawfulBook (sym did.2) (lawful_begin v layer book did.0 did.1)
 happens_lawful v (begin_refused layer fault) w book did = subst IsLawfulBook (sym did.2) book
 happens_lawful v (claims None) w book did = subst IsLawfulBook (sym did.1) book
@@ -68,7 +68,7 @@ refused_lasts v Double = lasts_itself v
 refused_lasts v Over = lasts_itself v
 refused_lasts v OutOfMemory = lasts_itself v
 
-happens_lasts : (v : BookView) (e : Event) (w : BookView) → Happens v e w → Lasts v w
+happens_lasts : (v : BookView) (e : BookEvent) (w : BookView) → Happens v e w → Lasts v w
 happens_lasts v (begins layer) w did = lasts_since v w _ did.2 (lasts_itself v)
 happens_lasts v (begin_refused layer fault) w did = lasts_since v w v did.2 (lasts_itself v)
 happens_lasts v (claims None) w did = lasts_since v w v did.1 (lasts_itself v)
@@ -82,17 +82,17 @@ happens_lasts v (close_refused fault) w did = lasts_since v w v did.1 (lasts_its
 
 -- ---- any list of events
 
-pub history_lawful : (v w : BookView) (es : List Event) → IsLawfulBook v → History v es w → IsLawfulBook w
+pub history_lawful : (v w : BookView) (es : List BookEvent) → IsLawfulBook v → History v es w → IsLawfulBook w
 history_lawful v _ [] book nothing = book
 history_lawful v w (e ∷ es) book (event {m = m} did rest) = history_lawful m w es (happens_lawful v e m book did) rest
 
-pub history_made : (v w : BookView) (es : List Event) → History v es w → AreMadeAlike v w
+pub history_made : (v w : BookView) (es : List BookEvent) → History v es w → AreMadeAlike v w
 history_made v _ [] nothing = (refl, refl, refl, refl, refl)
 history_made v w (e ∷ es) (event {m = m} did rest) =
     let a = (happens_lasts v e m did).0 in let b = history_made m w es rest in
     (a.0 ∙ b.0, a.1 ∙ b.1, a.2 ∙ b.2, a.3 ∙ b.3, a.4 ∙ b.4)
 
-pub history_closed : (v w : BookView) (es : List Event) → History v es w → KeepsClosed v w
+pub history_closed : (v w : BookView) (es : List BookEvent) → History v es w → KeepsClosed v w
 history_closed v _ [] nothing = λ k xs found. found
 history_closed v w (e ∷ es) (event {m = m} did rest) = λ k xs found. history_closed m w es rest k xs ((happens_lasts v e m did).1 k xs found)
 
@@ -104,18 +104,18 @@ none_before [] (q ∷ qs) a b e = omega arith
 none_before (p ∷ ps) qs a b e = omega arith
 
 -- layer 0 has no more than one position
-first_few : (task : Task) (shares share : ℕ) (es : List Closed) → IsShareOfLayer task shares share 0 es → length es ≤ 1
-first_few task shares share [] l = omega arith
-first_few task shares share (x ∷ []) l = omega arith
-first_few task shares share (x ∷ y ∷ es) l =
+first_few : (problem : Problem) (shares share : ℕ) (es : List Closed) → IsShareOfLayer problem shares share 0 es → length es ≤ 1
+first_few problem shares share [] l = omega arith
+first_few problem shares share (x ∷ []) l = omega arith
+first_few problem shares share (x ∷ y ∷ es) l =
     let u = (l.layer.leads 0 x.0 refl).1 in let w = (l.layer.leads 1 y.0 refl).1 in
     absurd (none_before u.0 w.0 u.2 w.2 (l.layer.rise 0 1 x.0 y.0 u.0 w.0 (omega arith) refl refl u.1 w.1))
 
-pub new_lawful : (task : Task) (limit workers share shares : ℕ) (v : BookView) → IsLevel task.board → AreBounds limit workers share shares →
-    IsNewBook task limit workers share shares v → IsLawfulBook v
-new_lawful task limit workers share shares v lawful bounds new =
+pub new_lawful : (problem : Problem) (limit workers share shares : ℕ) (v : BookView) → IsLevel problem.board → AreBounds limit workers share shares →
+    IsNewBook problem limit workers share shares v → IsLawfulBook v
+new_lawful problem limit workers share shares v lawful bounds new =
     let m = new.made_with in let c = new.closed in let n = new.nothing in
-    let few = first_few task shares share c.0 c.2 in
+    let few = first_few problem shares share c.0 c.2 in
     subst IsLawfulBook
     (λ i. record {
       level = sym m.0 i;
@@ -130,7 +130,7 @@ new_lawful task limit workers share shares v lawful bounds new =
       waiting = sym n.2 i;
       tallies = sym new.tallies i;
       over = sym new.over i;
-    }) (lawful_new task limit workers share shares c.0 lawful bounds c.2 (let some = bounds.limits.0 in omega arith))
+    }) (lawful_new problem limit workers share shares c.0 lawful bounds c.2 (let some = bounds.limits.0 in omega arith))
 
 -- ---- the order of events
 
@@ -144,33 +144,33 @@ push_same (a ∷ xs) (b ∷ ys) x y e =
     (λ i. head i ∷ rest.0 i, rest.1)
 
 -- a position has one origin in the layer before
-one_origin : (task : Task) → IsLevel task.board → (k : ℕ) (xs : List Scene) → IsLayerOf task k xs → (m : Scene) (o p : Origin Push) → HasOrigin task k m o →
-    HasOrigin task k m p → o ≡ p
-one_origin task level k xs layer m o p a b =
-    let laws = level_laws task level in
+one_origin : (problem : Problem) → IsLevel problem.board → (k : ℕ) (xs : List Scene) → IsLayerOf problem k xs → (m : Scene) (o p : Origin Push) → HasOrigin problem k m o →
+    HasOrigin problem k m p → o ≡ p
+one_origin problem level k xs layer m o p a b =
+    let laws = level_laws problem level in
     let u = a xs layer in let w = b xs layer in
     let lead = (layer.leads o.0 u.0 u.1).1 in let other = (layer.leads p.0 w.0 w.1).1 in
     let e = push_same lead.0 other.0 o.1 p.1 (lead_unique laws m (lead.0 ++ o.1 ∷ []) (other.0 ++ p.1 ∷ []) (u.2 lead.0 lead.1) (w.2 other.0 other.1)) in
-    let n : u.0 ≡ w.0 = laws.same other.0 u.0 w.0 (subst (λ ps. Reaches task.board ps u.0) e.0 lead.1.reached) other.1.reached in
+    let n : u.0 ≡ w.0 = laws.same other.0 u.0 w.0 (subst (λ ps. Reaches problem.board ps u.0) e.0 lead.1.reached) other.1.reached in
     let rank = place_unique laws k xs layer o.0 p.0 w.0 (u.1 ∙ ap (λ (z : Scene). Some z) n) w.1 in
     λ i. (rank i, e.1 i)
 
-closed_origin : (task : Task) → IsLevel task.board → (k : ℕ) → ((j : ℕ) → k ≡ suc j → (xs : List Scene) × IsLayerOf task j xs) →
-    (m : Scene) (o p : Option (Origin Push)) → HasClosedOrigin task k m o → HasClosedOrigin task k m p → o ≡ p
-closed_origin task level zero before m o p a b = a ∙ sym b
-closed_origin task level (suc k) before m None p a b = absurd a
-closed_origin task level (suc k) before m (Some o) None a b = absurd b
-closed_origin task level (suc k) before m (Some o) (Some p) a b = let w = before k refl in ap Some (one_origin task level k w.0 w.1 m o p a b)
+closed_origin : (problem : Problem) → IsLevel problem.board → (k : ℕ) → ((j : ℕ) → k ≡ suc j → (xs : List Scene) × IsLayerOf problem j xs) →
+    (m : Scene) (o p : Option (Origin Push)) → HasClosedOrigin problem k m o → HasClosedOrigin problem k m p → o ≡ p
+closed_origin problem level zero before m o p a b = a ∙ sym b
+closed_origin problem level (suc k) before m None p a b = absurd a
+closed_origin problem level (suc k) before m (Some o) None a b = absurd b
+closed_origin problem level (suc k) before m (Some o) (Some p) a b = let w = before k refl in ap Some (one_origin problem level k w.0 w.1 m o p a b)
 
 -- a closed list is one only
-one_list : (task : Task) → IsLevel task.board → (shares share k : ℕ) → ((j : ℕ) → k ≡ suc j → (xs : List Scene) × IsLayerOf task j xs) →
-    (es fs : List Closed) → IsShareOfLayer task shares share k es → IsShareOfLayer task shares share k fs → es ≡ fs
-one_list task level shares share k before es fs a b =
-    let e = layer_unique (level_laws task level) k (places_of es) (places_of fs) a.layer b.layer in
+one_list : (problem : Problem) → IsLevel problem.board → (shares share k : ℕ) → ((j : ℕ) → k ≡ suc j → (xs : List Scene) × IsLayerOf problem j xs) →
+    (es fs : List Closed) → IsShareOfLayer problem shares share k es → IsShareOfLayer problem shares share k fs → es ≡ fs
+one_list problem level shares share k before es fs a b =
+    let e = layer_unique (level_laws problem level) k (places_of es) (places_of fs) a.layer b.layer in
     same_places es fs (sym (length-map es (λ (x : Closed). x.0)) ∙ ap length e ∙ length-map fs (λ (x : Closed). x.0))
     (λ i x y at_x at_y.
     let place = same_Some x.0 y.0 (sym (map_at (λ (z : Closed). z.0) es i x at_x) ∙ ap (λ zs. slice_get zs i) e ∙ map_at (λ (z : Closed). z.0) fs i y at_y) in
-    let origin = closed_origin task level k before y.0 x.1 y.1 (subst (λ m. HasClosedOrigin task k m x.1) place (a.origins i x.0 x.1 at_x))
+    let origin = closed_origin problem level k before y.0 x.1 y.1 (subst (λ m. HasClosedOrigin problem k m x.1) place (a.origins i x.0 x.1 at_x))
     (b.origins i y.0 y.1 at_y) in λ n. (place n, origin n))
 
 pub closed_alike : (v w : BookView) → IsLawfulBook v → IsLawfulBook w → v.level ≡ w.level → v.share ≡ w.share → v.shares ≡ w.shares → CloseAlike v w

@@ -8,7 +8,7 @@ use Rattle.std.specs.declared.cmp.Ordering.TheVariants.{Less, Equal, Greater}
 use Rattle.std.specs.Ordering.{ordering_reverse, is_gt, is_lt}
 use Rattle.std.specs.Cmp.{IsTotalOrder}
 use Rattle.successors.specs.Layered.{IsIn}
-use Rattle.store.specs.Entries.{Origin, origin_cmp, lesser, Entry}
+use Rattle.store.specs.Entries.{Origin, origin_cmp, lesser, OpenEntry}
 use Rattle.layers.specs.Openings.{IsNext, IsOpening}
 use Rattle.store.proofs.lemmas.Origins.{origin_total, best}
 
@@ -155,10 +155,10 @@ module _ {N P : Type 0} {cmp : P → P → Ordering} {Edge : N → P → N → T
 -- the open positions after every origin was offered, in the order of their origins, are the next layer
 pub closed_next : {N P : Type 0} {cmp : P → P → Ordering} {Edge : N → P → N → Type 0} {Kept : N → Type 0} {layer : ℕ → List N} {k : ℕ} {Offered : ℕ → P →
     Type 0} {look : N → Option (Origin P)} → IsOpening cmp Edge Kept layer k Offered look →
-    ((r : ℕ) (n : N) (p : P) → slice_get (layer k) r ≡ Some n → Offered r p) → (ys : List (Entry N P)) →
+    ((r : ℕ) (n : N) (p : P) → slice_get (layer k) r ≡ Some n → Offered r p) → (ys : List (OpenEntry N P)) →
     ((i : ℕ) (m : N) (p : Origin P) → slice_get ys i ≡ Some (m, p) → look m ≡ Some p) →
     ((m : N) (p : Origin P) → look m ≡ Some p → (i : ℕ) × (slice_get ys i ≡ Some (m, p))) →
-    ((i j : ℕ) (x y : Entry N P) → i < j → slice_get ys i ≡ Some x → slice_get ys j ≡ Some y → origin_cmp cmp x.1 y.1 ≡ Less) → IsNext cmp Edge Kept layer k ys
+    ((i j : ℕ) (x y : OpenEntry N P) → i < j → slice_get ys i ≡ Some x → slice_get ys j ≡ Some y → origin_cmp cmp x.1 y.1 ≡ Less) → IsNext cmp Edge Kept layer k ys
 closed_next o all ys listed lists rise = record {
   from = λ i m r p at. (let f = o.from m r p (listed i m (r, p) at) in (f.0, f.2));
   fresh = λ i m r p at. o.fresh m r p (listed i m (r, p) at);

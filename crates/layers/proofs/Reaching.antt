@@ -12,7 +12,7 @@ use Rattle.grid.proofs.lemmas.Plays.{play-append, play_last, play_scene, walk_of
 use Rattle.area.proofs.lemmas.Norms.{norm_unique, norm_exists, norm_along_walk, norm_walk, norm_walk_back}
 use Rattle.doom.specs.Deadlocks.{Doomed, Undoomed}
 use Rattle.layers.specs.Openings.{IsLayered}
-use Rattle.successors.specs.Tasks.{Task}
+use Rattle.successors.specs.Problems.{Problem}
 use Rattle.successors.specs.Capping.{Admits}
 use Rattle.successors.specs.Reaching.{Reaches}
 use Rattle.successors.specs.Expansion.{IsSuccessor}
@@ -61,13 +61,13 @@ module _ {board : Board} where
         (s.0, s.1, w.0, s.2, w.1, w.2)
 
 -- so the layers of a level under a cap are layers in the order of leads
-pub reaching_laws : (task : Task) → IsScene task.board (start task.board) → IsLayered push_cmp (Reaches task.board) (IsSuccessor task.board) (Admits task)
-reaching_laws task scene = record {
+pub reaching_laws : (problem : Problem) → IsScene problem.board (start problem.board) → IsLayered push_cmp (Reaches problem.board) (IsSuccessor problem.board) (Admits problem)
+reaching_laws problem scene = record {
   total = push_cmp_total;
   exact = push_cmp_exact;
   grow = reaches-grow;
   split = reaches-split scene;
   same = reaches-same scene;
-  closed = admitted_before task scene;
-  earlier = admitted_earlier task;
+  closed = admitted_before problem scene;
+  earlier = admitted_earlier problem;
 }

@@ -9,10 +9,10 @@ use Rattle.grid.specs.Lawful.{IsLevel}
 use Rattle.successors.specs.declared.limits.TheConstants.{MAX_SHARES}
 use Rattle.layers.specs.declared.limits.TheConstants.{MAX_WORKERS, MOST_POSITIONS}
 use Rattle.successors.specs.Layered.{IsIn, IsLayer}
-use Rattle.store.specs.Entries.{Origin, Entry, Closed, places_of, origin_of}
+use Rattle.store.specs.Entries.{Origin, OpenEntry, Closed, places_of, origin_of}
 use Rattle.successors.specs.Distances.{AreDistinct, IsAtDistance}
 use Rattle.layers.specs.Openings.{IsOpening}
-use Rattle.successors.specs.Tasks.{Task}
+use Rattle.successors.specs.Problems.{Problem}
 use Rattle.successors.specs.Capping.{Admits}
 use Rattle.successors.specs.Reaching.{Reaches, AreLayersOf, total}
 use Rattle.successors.specs.Expansion.{IsSuccessor}
@@ -23,7 +23,7 @@ use Rattle.successors.specs.Shares.{share_of}
 -- has begun, and then marks over its ranks; the open positions, each with its least origin; for each
 -- worker the number of ranks that it handed back; and whether the limit was passed
 pub record BookView : Type 0 where
-  pub level : Task
+  pub level : Problem
   pub limit : ℕ
   pub workers : ℕ
   pub share : ℕ
@@ -32,7 +32,7 @@ pub record BookView : Type 0 where
   pub begun : Bool
   pub claimed : List Bool
   pub done : List Bool
-  pub waiting : List (Entry Scene Push)
+  pub waiting : List (OpenEntry Scene Push)
   pub tallies : List ℕ
   pub over : Bool
 
@@ -53,23 +53,23 @@ abbrev pub IsKept : BookView → Scene → Type 0
 IsKept v m = InShare v m × Admits v.level (length v.closed) m
 
 -- a closed position of layer k beyond layer 0 has its parent's rank and its push; one of layer 0 has none
-abbrev pub HasClosedOrigin : Task → ℕ → Scene → Option (Origin Push) → Type 0
-HasClosedOrigin task zero m o = o ≡ None
-HasClosedOrigin task (suc k) m None = ⊥
-HasClosedOrigin task (suc k) m (Some o) = HasOrigin task k m o
+abbrev pub HasClosedOrigin : Problem → ℕ → Scene → Option (Origin Push) → Type 0
+HasClosedOrigin problem zero m o = o ≡ None
+HasClosedOrigin problem (suc k) m None = ⊥
+HasClosedOrigin problem (suc k) m (Some o) = HasOrigin problem k m o
 
 -- es is layer k cut down to the positions of one share, in the order of the leads, each with its origin
-pub record IsShareOfLayer (task : Task) (shares share k : ℕ) (es : List Closed) : Type 0 where
-  pub layer : IsLayer push_cmp (Reaches task.board) (λ j m. (share_of shares m ≡ share) ×
-      Admits task j m) k (places_of es)
+pub record IsShareOfLayer (problem : Problem) (shares share k : ℕ) (es : List Closed) : Type 0 where
+  pub layer : IsLayer push_cmp (Reaches problem.board) (λ j m. (share_of shares m ≡ share) ×
+      Admits problem j m) k (places_of es)
   pub origins : (i : ℕ) (m : Scene) (o : Option (Origin Push)) → slice_get es i ≡ Some (m, o) →
-      HasClosedOrigin task k m o
-  pub fits : (i : ℕ) (m : Scene) (o : Option (Origin Push)) → slice_get es i ≡ Some (m, o) → FitsLevel task.board m
+      HasClosedOrigin problem k m o
+  pub fits : (i : ℕ) (m : Scene) (o : Option (Origin Push)) → slice_get es i ≡ Some (m, o) → FitsLevel problem.board m
 
 -- the lists are all the shares of layer k, share 0 first
-pub record AreSharesOfLayer (task : Task) (shares k : ℕ) (lists : List (List Closed)) : Type 0 where
+pub record AreSharesOfLayer (problem : Problem) (shares k : ℕ) (lists : List (List Closed)) : Type 0 where
   pub all : length lists ≡ shares
-  pub each : (t : ℕ) (es : List Closed) → slice_get lists t ≡ Some es → IsShareOfLayer task shares t k es
+  pub each : (t : ℕ) (es : List Closed) → slice_get lists t ≡ Some es → IsShareOfLayer problem shares t k es
 
 -- the rank was handed back
 abbrev pub IsDone : BookView → ℕ → Type 0

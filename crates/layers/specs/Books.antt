@@ -24,9 +24,9 @@ use Rattle.layers.specs.declared.fault.CloseFault.TheVariants.{NotAll, OutOfMemo
 use Rattle.layers.specs.declared.fault.JoinFault.{JoinFault}
 use Rattle.layers.specs.declared.fault.JoinFault.TheVariants.{NotWhole, OutOfMemory as JoinOutOfMemory}
 use Rattle.successors.specs.declared.parcel.Successor.{Successor}
-use Rattle.store.specs.Entries.{Origin, Entry, same_scene, Closed, places_of}
+use Rattle.store.specs.Entries.{Origin, OpenEntry, same_scene, Closed, places_of}
 use Rattle.successors.specs.Shares.{share_of}
-use Rattle.successors.specs.Tasks.{Task}
+use Rattle.successors.specs.Problems.{Problem}
 use Rattle.successors.specs.Reaching.{total}
 use Rattle.layers.specs.LayerView.{LayerView}
 use Rattle.successors.specs.ParcelView.{ParcelView}
@@ -36,22 +36,22 @@ use Rattle.store.specs.Entering.{entered}
 -- ---- a new book
 
 -- a new book has closed layer 0 and has begun nothing
-pub record IsNewBook (task : Task) (limit workers share shares : ℕ) (v : BookView) : Type 0 where
-  pub made_with : (v.level ≡ task) × (v.limit ≡ limit) × (v.workers ≡ workers) × (v.share ≡ share) × (v.shares ≡ shares)
-  pub closed : (es : List Closed) × (v.closed ≡ es ∷ []) × IsShareOfLayer task shares share 0 es
+pub record IsNewBook (problem : Problem) (limit workers share shares : ℕ) (v : BookView) : Type 0 where
+  pub made_with : (v.level ≡ problem) × (v.limit ≡ limit) × (v.workers ≡ workers) × (v.share ≡ share) × (v.shares ≡ shares)
+  pub closed : (es : List Closed) × (v.closed ≡ es ∷ []) × IsShareOfLayer problem shares share 0 es
   pub begun : v.begun ≡ false
   pub nothing : (v.claimed ≡ []) × (v.done ≡ []) × (v.waiting ≡ [])
   pub tallies : v.tallies ≡ replicate workers 0
   pub over : v.over ≡ false
 
 -- each of the books is new, and is the share of its index in the list
-abbrev pub AreNewInOrder : Task → ℕ → ℕ → ℕ → List BookView → Type 0
-AreNewInOrder task limit workers shares books =
-    (i : ℕ) (v : BookView) → slice_get books i ≡ Some v → IsNewBook task limit workers i shares v
+abbrev pub AreNewInOrder : Problem → ℕ → ℕ → ℕ → List BookView → Type 0
+AreNewInOrder problem limit workers shares books =
+    (i : ℕ) (v : BookView) → slice_get books i ≡ Some v → IsNewBook problem limit workers i shares v
 
 -- the new books of all shares, share 0 first
-abbrev pub AreNewShares : Task → ℕ → ℕ → ℕ → List BookView → Type 0
-AreNewShares task limit workers shares books = (length books ≡ shares) × AreNewInOrder task limit workers shares books
+abbrev pub AreNewShares : Problem → ℕ → ℕ → ℕ → List BookView → Type 0
+AreNewShares problem limit workers shares books = (length books ≡ shares) × AreNewInOrder problem limit workers shares books
 
 -- why a book is not made
 abbrev pub BookRefused : Board → BookFault → Type 0
@@ -114,7 +114,7 @@ abbrev pub is_wanted : BookView → Scene → Bool
 is_wanted v m = (share_of v.shares m == v.share) && not (is_closed v.closed m)
 
 -- the open positions after the successors of a rank have entered
-abbrev pub all_entered : BookView → ℕ → List Successor → List (Entry Scene Push)
+abbrev pub all_entered : BookView → ℕ → List Successor → List (OpenEntry Scene Push)
 all_entered v rank ss = fold (entered (is_wanted v) rank) v.waiting ss
 
 -- the book after a parcel was accepted: its rank is done, the worker's tally is one more, its successors have entered

@@ -15,19 +15,19 @@ use Rattle.layers.specs.Books.{IsClosedBy, CloseRefused}
 
 -- an event with its answer: a layer begins or is refused; a rank is claimed, or none is left; a worker's parcel is
 -- accepted or refused; claimed ranks are freed; the next layer closes or is refused
-pub data Event : Type 0 where
-  begins : LayerView → Event
-  begin_refused : LayerView → BeginFault → Event
-  claims : Option Claim → Event
-  hands_back : ℕ → ParcelView → Event
-  hand_back_refused : ℕ → ParcelView → Refusal → Event
-  reopens : Event
-  closes : Report → Event
-  close_refused : CloseFault → Event
+pub data BookEvent : Type 0 where
+  begins : LayerView → BookEvent
+  begin_refused : LayerView → BeginFault → BookEvent
+  claims : Option Claim → BookEvent
+  hands_back : ℕ → ParcelView → BookEvent
+  hand_back_refused : ℕ → ParcelView → Refusal → BookEvent
+  reopens : BookEvent
+  closes : Report → BookEvent
+  close_refused : CloseFault → BookEvent
 
 -- the event may happen to the book v, which is then the book after.  Any whole layer may be begun and any parcel
 -- handed back, of whatever level, layer and rank, as often as one likes and by any of the workers.
-abbrev pub Happens : BookView → Event → BookView → Type 0
+abbrev pub Happens : BookView → BookEvent → BookView → Type 0
 Happens v (begins layer) after = IsWhole layer × MayBegin v layer × (after ≡ with_begun v (length layer.places))
 Happens v (begin_refused layer fault) after = IsWhole layer × BeginRefused v layer fault × (after ≡ v)
 Happens v (claims answer) after = ClaimAnswer v answer after
@@ -41,9 +41,9 @@ Happens v (closes report) after = IsClosedBy v report after
 Happens v (close_refused fault) after = CloseRefused v fault × (after ≡ v)
 
 -- the events happen in order, the first to the book before, and the last leaves the book after
-pub data History : BookView → List Event → BookView → Type 0 where
+pub data History : BookView → List BookEvent → BookView → Type 0 where
   nothing : {v : BookView} → History v [] v
-  event : {v m w : BookView} {e : Event} {es : List Event} → Happens v e m → History m es w → History v (e ∷ es) w
+  event : {v m w : BookView} {e : BookEvent} {es : List BookEvent} → Happens v e m → History m es w → History v (e ∷ es) w
 
 -- the two books were made with the same level and numbers
 abbrev pub AreMadeAlike : BookView → BookView → Type 0

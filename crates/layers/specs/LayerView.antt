@@ -6,23 +6,23 @@ use Rattle.grid.specs.States.{FitsLevel}
 use Rattle.grid.specs.Lawful.{IsLevel}
 use Rattle.layers.specs.declared.limits.TheConstants.{MOST_POSITIONS}
 use Rattle.store.specs.Entries.{Origin}
-use Rattle.successors.specs.Tasks.{Task}
+use Rattle.successors.specs.Problems.{Problem}
 use Rattle.successors.specs.Reaching.{IsLayerOf, AreLayersOf, total}
 use Rattle.layers.specs.Origins.{HasOrigin}
 
 -- a layer: its level with its cap, its number, its normal positions by rank, and for each the rank of its parent in
 -- the layer before with its push; layer 0 has no parents
 pub record LayerView : Type 0 where
-  pub level : Task
+  pub level : Problem
   pub number : ℕ
   pub places : List Scene
   pub origins : List (Origin Push)
 
 -- each position has its parent's rank and its push, with which its lead ends
-pub record HaveOrigins (task : Task) (k : ℕ) (places : List Scene) (origins : List (Origin Push)) : Type 0 where
+pub record HaveOrigins (problem : Problem) (k : ℕ) (places : List Scene) (origins : List (Origin Push)) : Type 0 where
   pub each : length origins ≡ length places
   pub right : (r : ℕ) (m : Scene) (o : Origin Push) → slice_get places r ≡ Some m → slice_get origins r ≡ Some o →
-      HasOrigin task k m o
+      HasOrigin problem k m o
 
 -- the whole layer of its level under its cap, in the order of the leads; layers 0 to it are no more than all books
 -- may hold

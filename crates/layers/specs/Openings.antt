@@ -6,12 +6,12 @@ use Rattle.std.specs.declared.cmp.Ordering.TheVariants.{Less, Equal}
 use Rattle.std.specs.Ordering.{is_gt}
 use Rattle.std.specs.Cmp.{IsTotalOrder}
 use Rattle.successors.specs.Layered.{IsIn}
-use Rattle.store.specs.Entries.{Origin, origin_cmp, Entry}
+use Rattle.store.specs.Entries.{Origin, origin_cmp, OpenEntry}
 
 -- ys is the kept successors of layer k that are in no layer up to k, each once, with its least origin, in the order
 -- of the origins
 pub record IsNext {N P : Type 0} (cmp : P → P → Ordering) (Edge : N → P → N → Type 0) (Kept : N → Type 0) (layer : ℕ →
-    List N) (k : ℕ) (ys : List (Entry N P)) : Type 0 where
+    List N) (k : ℕ) (ys : List (OpenEntry N P)) : Type 0 where
   pub from : (i : ℕ) (m : N) (r : ℕ) (p : P) → slice_get ys i ≡ Some (m, (r, p)) → Kept m ×
       ((n : N) × (slice_get (layer k) r ≡ Some n) × Edge n p m)
   pub fresh : (i : ℕ) (m : N) (r : ℕ) (p : P) → slice_get ys i ≡ Some (m, (r, p)) → (j : ℕ) → j ≤ k →
@@ -19,7 +19,7 @@ pub record IsNext {N P : Type 0} (cmp : P → P → Ordering) (Edge : N → P �
   pub least : (i : ℕ) (m : N) (r : ℕ) (p : P) → slice_get ys i ≡ Some (m, (r, p)) → (s : ℕ) (q : P) (n : N) →
       slice_get (layer k) s ≡ Some n → Edge n q m →
       is_gt (origin_cmp cmp (r, p) (s, q)) ≡ false
-  pub rise : (i j : ℕ) (x y : Entry N P) → i < j → slice_get ys i ≡ Some x → slice_get ys j ≡ Some y →
+  pub rise : (i j : ℕ) (x y : OpenEntry N P) → i < j → slice_get ys i ≡ Some x → slice_get ys j ≡ Some y →
       origin_cmp cmp x.1 y.1 ≡ Less
   pub whole : (r : ℕ) (n : N) (p : P) (m : N) → slice_get (layer k) r ≡ Some n → Edge n p m → Kept m →
       ((j : ℕ) × (j ≤ k) × IsIn (layer j) m) ⊎ ((i : ℕ) × (o : Origin P) × (slice_get ys i ≡ Some (m, o)))

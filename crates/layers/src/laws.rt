@@ -2,7 +2,7 @@
 //! in a proof.
 ghost use Rattle.std.specs.Prelude.{◌≡◌, ℕ, ◌+◌, ◌<◌, ◌≤◌, List, length, map, sum_by};
 ghost use Rattle.grid.specs.Board.{Scene};
-ghost use Rattle.successors.specs.Tasks.{Task};
+ghost use Rattle.successors.specs.Problems.{Problem};
 ghost use Rattle.grid.specs.Lawful.{IsLevel};
 ghost use Rattle.successors.specs.Reaching.{AreLayersOf, IsLayerOf, total};
 ghost use Rattle.layers.specs.BookView.{BookView, AreBounds, AreSharesOfLayer, AreLawfulBooks, IsLawfulBook};
@@ -11,25 +11,25 @@ ghost use Rattle.store.specs.Entries.{Closed};
 ghost use Rattle.layers.specs.LayerView.{LayerView, IsWhole};
 ghost use Rattle.layers.specs.Books.{AreAllShares, HasBegun, IsNewBook};
 ghost use Rattle.layers.specs.Holding.{AreManyIn, all_held};
-ghost use Rattle.layers.specs.Events.{Event, History, AreMadeAlike, KeepsClosed, CloseAlike};
+ghost use Rattle.layers.specs.Events.{BookEvent, History, AreMadeAlike, KeepsClosed, CloseAlike};
 
 /// A lawful book stays lawful under any list of begins, claims, hand backs, reopens and closes, each with any of its
 /// results. Its level and numbers stay the same, and each closed list keeps its index. A parcel that comes twice, too
 /// late or from elsewhere is a refused event. A claim whose parcel never comes has no hand back after it.
 pub fn a_book_stays_lawful()
-    ensures lawful { (before after : BookView) (events : List Event) → IsLawfulBook before →
+    ensures lawful { (before after : BookView) (events : List BookEvent) → IsLawfulBook before →
         History before events after → IsLawfulBook after }
-    ensures made { (before after : BookView) (events : List Event) → History before events after →
+    ensures made { (before after : BookView) (events : List BookEvent) → History before events after →
         AreMadeAlike before after }
-    ensures closed { (before after : BookView) (events : List Event) → History before events after →
+    ensures closed { (before after : BookView) (events : List BookEvent) → History before events after →
         KeepsClosed before after }
 {}
 
 /// A new book of a lawful level is lawful, and by [`a_book_stays_lawful`] it stays so under any list of events.
 pub fn a_new_book_is_lawful()
-    ensures { (task : Task) (limit workers share shares : ℕ) (book : BookView) → IsLevel task.board →
+    ensures { (problem : Problem) (limit workers share shares : ℕ) (book : BookView) → IsLevel problem.board →
         AreBounds limit workers share shares →
-        IsNewBook task limit workers share shares book → IsLawfulBook book }
+        IsNewBook problem limit workers share shares book → IsLawfulBook book }
 {}
 
 /// Two lawful books of one share of one level and cap have the same list for each layer that both have closed. The
@@ -48,11 +48,11 @@ pub fn a_begun_book_has_the_ranks_of_its_layer()
 
 /// The positions of all shares of a layer add up to those of the layer, and one share has no more than the layer.
 pub fn the_shares_make_up_the_layer()
-    ensures sum { (task : Task) (shares k : ℕ) (lists : List (List Closed)) (layer : List Scene) →
-        IsLevel task.board → 0 < shares →
-        AreSharesOfLayer task shares k lists → IsLayerOf task k layer → total lists ≡ length layer }
-    ensures part { (task : Task) (shares share k : ℕ) (list : List Closed) (layer : List Scene) → IsLevel task.board →
-        IsShareOfLayer task shares share k list → IsLayerOf task k layer → length list ≤ length layer }
+    ensures sum { (problem : Problem) (shares k : ℕ) (lists : List (List Closed)) (layer : List Scene) →
+        IsLevel problem.board → 0 < shares →
+        AreSharesOfLayer problem shares k lists → IsLayerOf problem k layer → total lists ≡ length layer }
+    ensures part { (problem : Problem) (shares share k : ℕ) (list : List Closed) (layer : List Scene) → IsLevel problem.board →
+        IsShareOfLayer problem shares share k list → IsLayerOf problem k layer → length list ≤ length layer }
 {}
 
 /// Lawful books that are all the shares hold all the shares of their last closed layer. Their closed positions add up

@@ -12,7 +12,7 @@ use Rattle.prices.specs.declared.table.DistanceTable.{DistanceTable}
 use Rattle.prices.specs.Prices.{AreFar, goals_of, least_of, need_of, sum_over, total_need}
 use Rattle.prices.specs.inside.Checks.{StayAway}
 use Rattle.prices.specs.inside.Goals.{keeps_to, mark_count, marks_all}
-use Rattle.prices.specs.inside.Sums.{total}
+use Rattle.prices.specs.inside.Sums.{sum_all}
 use Rattle.prices.specs.inside.Tables.{far_in, number_of, place_in, row_in}
 use Rattle.prices.proofs.lemmas.Goals.{is_rising-goals}
 use Rattle.prices.proofs.lemmas.Tables.{place_inside}
@@ -56,11 +56,11 @@ length-tolls_by : (k : ℕ) (ms : List Bool) → length (tolls_by k ms) ≡ leng
 length-tolls_by k [] = refl
 length-tolls_by k (m ∷ ms) = ap suc (length-tolls_by k ms)
 
-total-tolls_by : (k : ℕ) (ms : List Bool) → total (tolls_by k ms) ≡ mark_count ms * k
-total-tolls_by k [] = omega arith
-total-tolls_by k (m ∷ ms) = by m (total-tolls_by k ms)
+sum_all-tolls_by : (k : ℕ) (ms : List Bool) → sum_all (tolls_by k ms) ≡ mark_count ms * k
+sum_all-tolls_by k [] = omega arith
+sum_all-tolls_by k (m ∷ ms) = by m (sum_all-tolls_by k ms)
   where
-    by : (x : Bool) → total (tolls_by k ms) ≡ mark_count ms * k → cond x k 0 + total (tolls_by k ms) ≡ (cond x 1 0 + mark_count ms) * k
+    by : (x : Bool) → sum_all (tolls_by k ms) ≡ mark_count ms * k → cond x k 0 + sum_all (tolls_by k ms) ≡ (cond x 1 0 + mark_count ms) * k
     by true rest = omega (arith, rest)
     by false rest = omega (arith, rest)
 
@@ -115,7 +115,7 @@ more_than_goals board t ms s marks keep are away goals size scene marked kept mo
     let toll = number_of t.goals.items (tolls_by k ms) in
     let rises : is_rising t.goals.items ≡ true = ap (λ (gs : List ℕ). is_rising gs) goals ∙ is_rising-goals board in
     let pay = tolls_le 0 t.goals.items (tolls_by k ms) rises (length-tolls_by k ms ∙ size) in
-    let sum = total-tolls_by k ms in
+    let sum = sum_all-tolls_by k ms in
     let same : sum_over toll t.goals.items ≡ sum_over toll (goals_of board) = ap (λ (gs : List ℕ). sum_over toll gs) goals in
     let needs = needs_of_some (λ b. keeps_to t ms b s.player) (λ b. least_of (λ g. far g b s.player + toll g) k t.goals.items) k s.boxes
     (λ b keeps. keeper_needs t ms k b s.player size keeps) in

@@ -9,7 +9,7 @@ use Rattle.prices.specs.declared.table.DistanceTable.{DistanceTable}
 use Rattle.prices.specs.Helping.{NeverHelps}
 use Rattle.prices.specs.Prices.{AreFar, goals_of, least_of, need_of, sum_over, total_need}
 use Rattle.prices.specs.inside.Tables.{far_in, number_of}
-use Rattle.prices.specs.inside.Sums.{greatest, need_by, need_seen, total}
+use Rattle.prices.specs.inside.Sums.{greatest, need_by, need_seen, sum_all}
 use Rattle.prices.proofs.lemmas.Goals.{is_rising-goals}
 use Rattle.prices.proofs.lemmas.Helping.{costs_tell}
 use Rattle.prices.proofs.lemmas.Prices.{sum_le, sum_put_back, tolls_are_free}
@@ -19,7 +19,7 @@ use Rattle.prices.proofs.Sums.{seen_low, tolls_le}
 pub dear_never_helps : (board : Board) (t : DistanceTable) (tolls : List ℕ) (m after : ℕ) (s : Scene) (b : ℕ) (d : Dir) → AreFar board (far_in t)
     → t.goals.items ≡ goals_of board → length tolls ≡ length t.goals.items → IsScene board s → contains s.boxes b ≡ true
     → after ≤ need_by t tolls (next board b d) b
-    → m + total tolls + need_seen t tolls b s.player ≤ sum_over (λ z. need_seen t tolls z s.player) s.boxes + after → NeverHelps board m s b d
+    → m + sum_all tolls + need_seen t tolls b s.player ≤ sum_over (λ z. need_seen t tolls z s.player) s.boxes + after → NeverHelps board m s b d
 dear_never_helps board t tolls m after s b d far goals size scene there low dear =
     let toll = number_of t.goals.items tolls in
     let need = need_of board (far_in t) toll greatest in

@@ -11,7 +11,7 @@ use Rattle.prices.specs.declared.table.DistanceTable.{DistanceTable}
 use Rattle.prices.specs.Solving.{NoneWithin}
 use Rattle.prices.specs.Prices.{AreFar, ComesOfTolls, goals_of, least_of, need_of, sum_over, total_need}
 use Rattle.prices.specs.inside.Tables.{far_in, number_of, place_in, row_in}
-use Rattle.prices.specs.inside.Sums.{greatest, least_sum, need_by, need_seen, total}
+use Rattle.prices.specs.inside.Sums.{greatest, least_sum, need_by, need_seen, sum_all}
 use Rattle.prices.proofs.lemmas.Goals.{is_rising-goals}
 use Rattle.prices.proofs.lemmas.Tables.{place_inside}
 use Rattle.prices.proofs.lemmas.Prices.{needs_refuse, sum_le, tolls_are_free}
@@ -65,7 +65,7 @@ seen_low t tolls b p size = by_eq (length (row_in t b p) == length tolls) refl
 
 -- the tolls of goals that rise are no more than all numbers
 pub tolls_le : (k : ℕ) (gs xs : List ℕ) → rises_from k gs ≡ true → length xs ≡ length gs
-    → sum_over (number_of gs xs) gs ≤ total xs
+    → sum_over (number_of gs xs) gs ≤ sum_all xs
 tolls_le k [] xs rises same = omega arith
 tolls_le k (g ∷ gs) [] rises same = absurd (omega (arith, same))
 tolls_le k (g ∷ gs) (x ∷ xs) rises same =
@@ -100,7 +100,7 @@ none_above board far s = ((λ g. 0), 0, (let e = no_tolls (goals_of board) in om
 -- what the boxes need above the sum of a list of tolls comes of tolls
 pub needs_above : (board : Board) (t : DistanceTable) (tolls : List ℕ) (s : Scene) (needs sum : ℕ)
     → t.goals.items ≡ goals_of board → length tolls ≡ length t.goals.items
-    → needs ≤ sum_over (λ b. need_by t tolls b s.player) s.boxes → sum ≡ total tolls
+    → needs ≤ sum_over (λ b. need_by t tolls b s.player) s.boxes → sum ≡ sum_all tolls
     → ComesOfTolls board (far_in t) s (needs - sum)
 needs_above board t tolls s needs sum goals size le paid = elim (cases_lt needs sum) [
   | inl less ↦ subst (ComesOfTolls board (far_in t) s) (let e : 0 ≡ needs - sum = omega (arith, less) in
@@ -114,7 +114,7 @@ needs_above board t tolls s needs sum goals size le paid = elim (cases_lt needs 
     rises : is_rising t.goals.items ≡ true
     rises = ap (λ (gs : List ℕ). is_rising gs) goals ∙ is_rising-goals board
 
-    pay : sum_over toll t.goals.items ≤ total tolls
+    pay : sum_over toll t.goals.items ≤ sum_all tolls
     pay = tolls_le 0 t.goals.items tolls rises size
 
     same : sum_over toll t.goals.items ≡ sum_over toll (goals_of board)

@@ -1,7 +1,7 @@
 //! The needs of boxes by the distances of a table and the tolls of the goals.
 ghost use Rattle.std.specs.Prelude.{◌≡◌, ℕ, ◌+◌, ◌*◌, ◌<◌, ◌≤◌, length, slice_index_or};
 ghost use Rattle.prices.specs.Prices.{sum_over};
-ghost use Rattle.prices.specs.inside.Sums.{greatest, least_sum, need_by, need_seen, total};
+ghost use Rattle.prices.specs.inside.Sums.{greatest, least_sum, need_by, need_seen, sum_all};
 
 use crate::table::DistanceTable;
 use grid::{MAX_BOXES, Square};
@@ -54,7 +54,7 @@ fn least_sum(numbers: &[u32], others: &[u32]) -> u32
 /// The sum of the numbers.
 pub(crate) fn sum(numbers: &[u32]) -> u64
     requires { length numbers.now ≤ MAX_BOXES }
-    ensures value { result ≡ total numbers.now }
+    ensures value { result ≡ sum_all numbers.now }
     ensures few { result ≤ MAX_BOXES * greatest }
 {
     let mut sum = 0;

@@ -8,14 +8,14 @@ use Rattle.std.specs.Prelude.{◌^◌, slice_get}
 use Rattle.std.specs.Vec.{with_items}
 use Rattle.grid.specs.Board.{Board, IsSolved}
 use Rattle.grid.specs.States.{FitsLevel}
-use Rattle.store.specs.Visited.{Entry, VisitedView}
-use Rattle.successors.specs.Tasks.{Task}
+use Rattle.store.specs.Visited.{Node, VisitedView}
+use Rattle.successors.specs.Problems.{Problem}
 use Rattle.successors.proofs.lemmas.Lists.{each_push}
-use Rattle.prover.specs.declared.lane.Job.{Job}
+use Rattle.prover.specs.declared.lane.Pick.{Pick}
 use Rattle.prover.specs.declared.lane.Lane.{Lane}
 use Rattle.prover.specs.declared.pushing.Expanded.{Expanded}
 use Rattle.prover.specs.Frontier.{IsReachedAfter}
-use Rattle.prover.specs.inside.Rounds.{AreJobs, AreLanes, IsJob}
+use Rattle.prover.specs.inside.Rounds.{ArePicks, AreLanes, IsPick}
 use Rattle.prover.specs.inside.Working.{KeepPlaces, MayBeExpanded, IsSearchOnBoard, IsWaiting}
 use Rattle.prover.proofs.Steps.{expansion_on}
 
@@ -24,24 +24,24 @@ pub each_at : {A : Type 0} (P : A → Type 0) (xs : List A) (i : ℕ) → i < le
     (d : A) → P (get_or xs i d)
 each_at P xs i lt each d = each i (get_or xs i d) (slice_get-get_or xs i d lt)
 
--- one more job
-pub jobs_push : (t : Task) (all : List Entry) (old new : List Job) (job : Job) → new ≡ old ++ job ∷ [] → job.is_done ≡ false → MayBeExpanded t.board job.from →
-    AreJobs t all old → AreJobs t all new
-jobs_push t all old new job shape undone ready jobs = subst (AreJobs t all) (sym shape)
-    (each_push (IsJob t all) old job (record { ready = ready; found = λ done. absurd (false≢true (sym undone ∙ done)) }) jobs)
+-- one more pick
+pub picks_push : (t : Problem) (all : List Node) (old new : List Pick) (pick : Pick) → new ≡ old ++ pick ∷ [] → pick.is_done ≡ false → MayBeExpanded t.board pick.from →
+    ArePicks t all old → ArePicks t all new
+picks_push t all old new pick shape undone ready picks = subst (ArePicks t all) (sym shape)
+    (each_push (IsPick t all) old pick (record { ready = ready; found = λ done. absurd (false≢true (sym undone ∙ done)) }) picks)
 
 -- what lanes hold beside what was found they hold beside what is found later
-pub lanes_on : (t : Task) (old new : List Entry) (lanes : List Lane) → KeepPlaces old new → AreLanes t old lanes → AreLanes t new lanes
+pub lanes_on : (t : Problem) (old new : List Node) (lanes : List Lane) → KeepPlaces old new → AreLanes t old lanes → AreLanes t new lanes
 lanes_on t old new lanes still are i lane at = record {
-  task = (are i lane at).task;
-  jobs = λ j job there. (let is = (are i lane at).jobs j job there in record {
+  problem = (are i lane at).problem;
+  picks = λ j pick there. (let is = (are i lane at).picks j pick there in record {
     ready = is.ready;
-    found = λ done. expansion_on t.board t.cap old new job.from job.opened.items job.next still (is.found done);
+    found = λ done. expansion_on t.board t.cap old new pick.from pick.opened.items pick.next still (is.found done);
   });
 }
 
 -- a position that was found and is not solved can be expanded
-pub ready_by : (board : Board) (cap : Option ℕ) (v : VisitedView) (place : ℕ) (x : Entry) (from : Expanded) → IsSearchOnBoard board cap v →
+pub ready_by : (board : Board) (cap : Option ℕ) (v : VisitedView) (place : ℕ) (x : Node) (from : Expanded) → IsSearchOnBoard board cap v →
     length v.entries < 2 ^ 32 → slice_get v.entries place ≡ Some x → (from.position ≡ x.position) × (from.pushes ≡ x.pushes) → from.reach < 2 ^ 32 →
     ¬ (IsSolved board from.position) → MayBeExpanded board from
 ready_by board cap v place x from searched few at same range unsolved =
@@ -60,7 +60,7 @@ ready_by board cap v place x from searched few at same range unsolved =
     }
 
 -- the position that has the least total is open for each total that is not less
-pub waits_by : (all : List Entry) (place least : ℕ) (x : Entry) (from : Expanded) → slice_get all place ≡ Some x → x.least ≡ Some least → from.place ≡ place →
+pub waits_by : (all : List Node) (place least : ℕ) (x : Node) (from : Expanded) → slice_get all place ≡ Some x → x.least ≡ Some least → from.place ≡ place →
     (from.position ≡ x.position) × (from.pushes ≡ x.pushes) → least ≤ from.reach → IsWaiting all from
 waits_by all place least x from at open_ here same near = record {
   entry = x;

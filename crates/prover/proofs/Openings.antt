@@ -14,7 +14,7 @@ use Rattle.prices.specs.Solving.{Allows, SolvableWithin}
 use Rattle.prices.proofs.lemmas.Solving.{solved_before, norms_change_nothing}
 use Rattle.prover.proofs.Deferring.{tightened}
 use Rattle.prover.proofs.lemmas.Pruning.{keeps_so}
-use Rattle.store.specs.Visited.{Entry}
+use Rattle.store.specs.Visited.{Node}
 use Rattle.prover.specs.Frontier.{IsFoundWithin, IsDoneFor, IsBelowLeast, IsSettled, IsSoundEntry, AreSoundEntries, IsOnTheWay, IsBound, ComesFrom}
 use Rattle.prover.specs.Frontier.{NothingIsLost, LeastBounds, ClosedDecides}
 use Rattle.prover.specs.inside.Working.{KeepPlaces, Expands, tighter}
@@ -30,7 +30,7 @@ none_solved board s (ds, [], t, play, solved, few) = solved_before board s t (wa
 none_solved board s (ds, p ∷ ps, t, play, solved, few) = absurd (omega (arith, few))
 
 -- a position is open with a least number up to m, or is done with for plays of m pushes
-open_or_done : (board : Board) (cap : Option ℕ) (all : List Entry) (m : ℕ) (x : Entry) → Allows cap m → IsSettled board cap all x →
+open_or_done : (board : Board) (cap : Option ℕ) (all : List Node) (m : ℕ) (x : Node) → Allows cap m → IsSettled board cap all x →
     ((least : ℕ) × (x.least ≡ Some least) × (least ≤ m)) ⊎ IsDoneFor board m all x
 open_or_done board cap all m x allowed settled = by_least x.least refl
   where
@@ -42,7 +42,7 @@ open_or_done board cap all m x allowed settled = by_least x.least refl
     ]
 
 -- a position that was found, and that is solvable with the pushes that are left, is on the way or leads to one that is
-led_on : (board : Board) (cap : Option ℕ) (all : List Entry) (m : ℕ) → AreSoundEntries board cap all → Allows cap m
+led_on : (board : Board) (cap : Option ℕ) (all : List Node) (m : ℕ) → AreSoundEntries board cap all → Allows cap m
     → (rest k : ℕ) (s : Scene) → IsFoundWithin all k s → k + rest ≤ m → SolvableWithin board rest s → IsOnTheWay board m all
 led_on board cap all m sound allowed zero k s (i, x, at, same, le) few solvable =
     elim (open_or_done board cap all m x allowed (sound i x at).settled) [
@@ -95,20 +95,20 @@ closed_decides board level cap all under closed ds ps (t, play, solved) allowed 
 -- ---- how the positions change
 
 -- what was found stays found
-pub found_on : (old new : List Entry) (k : ℕ) (s : Scene) → KeepPlaces old new → IsFoundWithin old k s → IsFoundWithin new k s
+pub found_on : (old new : List Node) (k : ℕ) (s : Scene) → KeepPlaces old new → IsFoundWithin old k s → IsFoundWithin new k s
 found_on old new k s still (i, x, at, same, le) =
     let (y, there, alike, less) = still i x at in
     (i, y, there, alike ∙ same, omega (arith, less, le))
 
 -- places that are kept twice are kept
-pub kept_then : (first second third : List Entry) → KeepPlaces first second → KeepPlaces second third → KeepPlaces first third
+pub kept_then : (first second third : List Node) → KeepPlaces first second → KeepPlaces second third → KeepPlaces first third
 kept_then first second third one two i x at =
     let (y, there, same, less) = one i x at in
     let (z, here, alike, fewer) = two i y there in
     (z, here, alike ∙ same, omega (arith, less, fewer))
 
 -- what is settled stays so
-pub settled_on : (board : Board) (cap : Option ℕ) (old new : List Entry) (x : Entry) → KeepPlaces old new → IsSettled board cap old x →
+pub settled_on : (board : Board) (cap : Option ℕ) (old new : List Node) (x : Node) → KeepPlaces old new → IsSettled board cap old x →
     IsSettled board cap new x
 settled_on board cap old new x still settled most allowed before =
     let done = settled most allowed before in
@@ -119,7 +119,7 @@ settled_on board cap old new x still settled most allowed before =
     }
 
 -- where it comes from stays
-pub from_on : (board : Board) (old new : List Entry) (x : Entry) (o : Option Parent) → KeepPlaces old new → ComesFrom board old x o → ComesFrom board new x o
+pub from_on : (board : Board) (old new : List Node) (x : Node) (o : Option Parent) → KeepPlaces old new → ComesFrom board old x o → ComesFrom board new x o
 from_on board old new x None still from = from
 from_on board old new x (Some step) still (y, at, fewer, can, norm) =
     let (z, there, same, less) = still step.place y at in (
@@ -130,7 +130,7 @@ from_on board old new x (Some step) still (y, at, fewer, can, norm) =
       subst (λ (s : Scene). IsNorm board (after_push board s step.push) x.position) (sym same) norm,
     )
 
-pub sound_on : (board : Board) (cap : Option ℕ) (old new : List Entry) (x : Entry) → KeepPlaces old new → IsSoundEntry board cap old x → IsSoundEntry board cap new x
+pub sound_on : (board : Board) (cap : Option ℕ) (old new : List Node) (x : Node) → KeepPlaces old new → IsSoundEntry board cap old x → IsSoundEntry board cap new x
 sound_on board cap old new x still sound = record {
   fits = sound.fits;
   reached = sound.reached;
@@ -140,7 +140,7 @@ sound_on board cap old new x still sound = record {
 }
 
 -- a position that is open with a true bound is settled
-pub settled_open : (board : Board) (cap : Option ℕ) (all : List Entry) (x : Entry) (least : ℕ) → x.least ≡ Some least →
+pub settled_open : (board : Board) (cap : Option ℕ) (all : List Node) (x : Node) (least : ℕ) → x.least ≡ Some least →
     IsBound board x.pushes x.position least → IsSettled board cap all x
 settled_open board cap all x least open_ bound most allowed before = record {
   unsolved = λ solved. (let le = bound 0 ([], [], x.position, stay tt, solved, omega arith) in omega (arith, le, lt));
@@ -151,7 +151,7 @@ settled_open board cap all x least open_ bound most allowed before = record {
     lt = subst (λ (o : Option ℕ). IsBelowLeast o most) open_ before
 
 -- a position whose expansion kept what it has to, up to what is left for later, is settled up to there
-pub settled_expanded : (board : Board) (cap : Option ℕ) (all : List Entry) (x : Entry) (next : Option ℕ) → x.least ≡ next → ¬ (IsSolved board x.position) →
+pub settled_expanded : (board : Board) (cap : Option ℕ) (all : List Node) (x : Node) (next : Option ℕ) → x.least ≡ next → ¬ (IsSolved board x.position) →
     Expands board (tighter cap next) (IsFoundWithin all (suc x.pushes)) x.pushes x.position → IsSettled board cap all x
 settled_expanded board cap all x next is unsolved expands most allowed before = record {
   unsolved = λ solved. absurd (unsolved solved);

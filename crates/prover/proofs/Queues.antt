@@ -12,7 +12,7 @@ use Rattle.std.specs.List.{Contains}
 use Rattle.std.specs.List.Sorted.{IsPermutation}
 use Rattle.std.specs.Ordering.{is_lt, ordering_then}
 use Rattle.std.specs.Prelude.{MatchOption, option_to_list, slice_get}
-use Rattle.store.specs.Visited.{Entry, HasEntered, with_least}
+use Rattle.store.specs.Visited.{Node, HasEntered, with_least}
 use Rattle.successors.proofs.lemmas.Lists.{at-push, set_at}
 use Rattle.prover.specs.declared.queue.Ticket.{Ticket}
 use Rattle.prover.specs.Frontier.{NoneIsOpen}
@@ -150,22 +150,22 @@ waits_aside t old new aside aside' shape less least place waits = subst (λ (ts 
 -- ---- the queue beside what was found
 
 -- where nothing is aside, the tickets are those in order
-pub only_ordered : (all : List Entry) (ordered aside : List Ticket) → aside ≡ [] → IsQueued all (ordered ++ aside) → IsQueued all ordered
+pub only_ordered : (all : List Node) (ordered aside : List Ticket) → aside ≡ [] → IsQueued all (ordered ++ aside) → IsQueued all ordered
 only_ordered all ordered aside none queued i x least at open_ = elim (waits_either ordered aside least i (queued i x least at open_)) [
   | inl h ↦ h
   | inr (t, (k, lt, same), l, p) ↦ absurd (let size = ap (λ (ts : List Ticket). length ts) none in omega (arith, lt, size))
 ]
 
-pub with_aside : (all : List Entry) (ordered aside : List Ticket) → IsQueued all ordered → IsQueued all (ordered ++ aside)
+pub with_aside : (all : List Node) (ordered aside : List Ticket) → IsQueued all ordered → IsQueued all (ordered ++ aside)
 with_aside all ordered aside queued i x least at open_ = waits_front ordered aside least i (queued i x least at open_)
 
 -- tickets that wait are queued in equal lists too
-pub queued_same : (all : List Entry) (old new aside aside' : List Ticket) → new ≡ old → aside' ≡ aside → IsQueued all (old ++ aside) →
+pub queued_same : (all : List Node) (old new aside aside' : List Ticket) → new ≡ old → aside' ≡ aside → IsQueued all (old ++ aside) →
     IsQueued all (new ++ aside')
 queued_same all old new aside aside' same alike queued = subst (λ (ts : List Ticket). IsQueued all (ts ++ aside')) (sym same)
     (subst (λ (ts : List Ticket). IsQueued all (old ++ ts)) (sym alike) queued)
 
-pub queued_on : (all : List Entry) (old new : List Ticket) → ((least place : ℕ) → Waits old least place → Waits new least place) →
+pub queued_on : (all : List Node) (old new : List Ticket) → ((least place : ℕ) → Waits old least place → Waits new least place) →
     IsQueued all old → IsQueued all new
 queued_on all old new wider queued i x least at open_ = wider least i (queued i x least at open_)
 
@@ -214,9 +214,9 @@ none_aside new n m None none size = let e = none.1 in nil_of new (omega (arith, 
 none_aside new n m (Some t) some size = tt
 
 -- a ticket that was taken back waits again, if its position is open
-pub queued_back : (all : List Entry) (t : Ticket) (before : List Ticket) (old new aside aside' : List Ticket) → IsQueued all before →
+pub queued_back : (all : List Node) (t : Ticket) (before : List Ticket) (old new aside aside' : List Ticket) → IsQueued all before →
     ((least place : ℕ) → Waits before least place → Waits (old ++ aside) least place ⊎ ((least ≡ t.least.0) × (place ≡ t.place))) →
-    ((x : Entry) → slice_get all t.place ≡ Some x → x.least ≡ Some t.least.0 → Waits new t.least.0 t.place) →
+    ((x : Node) → slice_get all t.place ≡ Some x → x.least ≡ Some t.least.0 → Waits new t.least.0 t.place) →
     ((least place : ℕ) → Waits old least place → Waits new least place) → aside' ≡ aside → IsQueued all (new ++ aside')
 queued_back all t before old new aside aside' queued less again wider same i x least at open_ = elim (less least i (queued i x least at open_)) [
   | inl h ↦ waits_wider old new aside aside' same wider least i h
@@ -226,42 +226,42 @@ queued_back all t before old new aside aside' queued less again wider same i x l
 ]
 
 -- one more position is open
-pub queued_more : (old new : List Entry) (e : Entry) (place least : ℕ) (before after : List Ticket) → e.least ≡ Some least →
+pub queued_more : (old new : List Node) (e : Node) (place least : ℕ) (before after : List Ticket) → e.least ≡ Some least →
     HasEntered old new e (Some place) → IsQueued old before → Waits after least place →
     ((least place : ℕ) → Waits before least place → Waits after least place) → IsQueued new after
 queued_more old new e place least before after is entered queued here others = by entered
   where
-    new_one : (i n : ℕ) (x : Entry) → i ≡ place → x ≡ e → x.least ≡ Some n → Waits after n i
+    new_one : (i n : ℕ) (x : Node) → i ≡ place → x ≡ e → x.least ≡ Some n → Waits after n i
     new_one i n x same alike open_ =
-        let m : least ≡ n = same_Some least n (sym is ∙ (ap (λ (w : Entry). w.least) (sym alike) ∙ open_)) in
+        let m : least ≡ n = same_Some least n (sym is ∙ (ap (λ (w : Node). w.least) (sym alike) ∙ open_)) in
         subst (λ (k : ℕ). Waits after n k) (sym same) (subst (λ (k : ℕ). Waits after k place) m here)
 
     by : HasEntered old new e (Some place) → IsQueued new after
-    by (inl (end, shape, fresh)) i x n at open_ = elim (at-push old e i x (ap (λ (xs : List Entry). slice_get xs i) (sym shape) ∙ at)) [
+    by (inl (end, shape, fresh)) i x n at open_ = elim (at-push old e i x (ap (λ (xs : List Node). slice_get xs i) (sym shape) ∙ at)) [
       | inl h ↦ others n i (queued i x n h open_)
       | inr (p, q) ↦ new_one i n x (p ∙ sym end) q open_
     ]
     by (inr (y, there, same, lt, shape)) i x n at open_ =
-        elim (set_at old place i e x (ap (λ (xs : List Entry). slice_get xs i) (sym shape) ∙ at)) [
+        elim (set_at old place i e x (ap (λ (xs : List Node). slice_get xs i) (sym shape) ∙ at)) [
           | inl (p, q) ↦ new_one i n x p q open_
           | inr (p, q) ↦ others n i (queued i x n q open_)
         ]
 
 -- the least total of a position was set, and its ticket entered
-pub queued_set : (old new : List Entry) (x : Entry) (place : ℕ) (least : Option ℕ) (before after : List Ticket) → slice_get old place ≡ Some x →
+pub queued_set : (old new : List Node) (x : Node) (place : ℕ) (least : Option ℕ) (before after : List Ticket) → slice_get old place ≡ Some x →
     HasLeastAt old place least new → IsQueued old before → ((n : ℕ) → least ≡ Some n → Waits after n place) →
     ((n p : ℕ) → Waits before n p → Waits after n p) → IsQueued new after
-queued_set old new x place least before after here has queued waits others = subst (λ (xs : List Entry). IsQueued xs after) (sym (has x here)) shown
+queued_set old new x place least before after here has queued waits others = subst (λ (xs : List Node). IsQueued xs after) (sym (has x here)) shown
   where
     shown : IsQueued (slice_set old place (with_least least x)) after
     shown i z n at open_ = elim (set_at old place i (with_least least x) z at) [
-      | inl (p, q) ↦ subst (λ (k : ℕ). Waits after n k) (sym p) (waits n (ap (λ (w : Entry). w.least) (sym q) ∙ open_))
+      | inl (p, q) ↦ subst (λ (k : ℕ). Waits after n k) (sym p) (waits n (ap (λ (w : Node). w.least) (sym q) ∙ open_))
       | inr (p, q) ↦ others n i (queued i z n q open_)
     ]
 
 -- a ticket was taken out whose position is not open with its total
-pub queued_less : (all : List Entry) (t : Ticket) (before after : List Ticket) → IsQueued all before →
-    ((x : Entry) → slice_get all t.place ≡ Some x → ¬ (x.least ≡ Some t.least.0))
+pub queued_less : (all : List Node) (t : Ticket) (before after : List Ticket) → IsQueued all before →
+    ((x : Node) → slice_get all t.place ≡ Some x → ¬ (x.least ≡ Some t.least.0))
     → ((least place : ℕ) → Waits before least place → Waits after least place ⊎ ((least ≡ t.least.0) × (place ≡ t.place))) → IsQueued all after
 queued_less all t before after queued stale others i x least at open_ = elim (others least i (queued i x least at open_)) [
   | inl waits ↦ waits
@@ -269,13 +269,13 @@ queued_less all t before after queued stale others i x least at open_ = elim (ot
 ]
 
 -- a position that is open with the total of the first ticket has the least total of all
-pub least_open_by : (all : List Entry) (t : Ticket) (tickets : List Ticket) → IsQueued all tickets → IsFirstTicket tickets t →
-    (x : Entry) × (slice_get all t.place ≡ Some x) × (x.least ≡ Some t.least.0) → IsLeastOpen all t.place t.least.0
+pub least_open_by : (all : List Node) (t : Ticket) (tickets : List Ticket) → IsQueued all tickets → IsFirstTicket tickets t →
+    (x : Node) × (slice_get all t.place ≡ Some x) × (x.least ≡ Some t.least.0) → IsLeastOpen all t.place t.least.0
 least_open_by all t tickets queued first (x, at, open_) =
     (x, at, open_, λ i y least there is. first.least least i (queued i y least there is))
 
 -- where no ticket waits, none is open
-pub closed_by : (all : List Entry) (tickets : List Ticket) → IsQueued all tickets → tickets ≡ [] → NoneIsOpen all
+pub closed_by : (all : List Node) (tickets : List Ticket) → IsQueued all tickets → tickets ≡ [] → NoneIsOpen all
 closed_by all tickets queued none i x at = by x.least refl
   where
     by : (o : Option ℕ) → x.least ≡ o → x.least ≡ None

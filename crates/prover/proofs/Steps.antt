@@ -31,7 +31,7 @@ use Rattle.prover.specs.declared.pushing.Expanded.{Expanded}
 use Rattle.prover.specs.declared.pushing.Opened.{Opened}
 use Rattle.prover.specs.Frontier.{IsReachedAfter}
 use Rattle.prover.specs.Parity.{SomeHas}
-use Rattle.store.specs.Visited.{Entry, VisitedView, with_least}
+use Rattle.store.specs.Visited.{Node, VisitedView, with_least}
 use Rattle.prover.specs.Frontier.{IsFoundWithin, IsSoundEntry, IsSearchUnderWay, IsBound, IsTotal, IsLeast, IsSettled, ComesFrom, NoneGoesOn}
 use Rattle.prover.specs.inside.Working.{HasLeastAt, KeepPlaces, Expands, IsPushDone, ArePushesDone, IsChosen, Enters, AreLeading, IsFoundAt, StayBelow, IsExpanding}
 use Rattle.prover.specs.inside.Working.{IsSearchOnBoard, Widens, GetsOn, IsLater, lesser_total, openness, tighter, turns_left}
@@ -217,13 +217,13 @@ pub listed_last : (opened new : List Opened) (o : Opened) → new ≡ opened ++ 
 listed_last opened new o is = subst (λ (os : List Opened). IsOpenedPosition os o.position) (sym is) (length opened, o, at_seam opened o, refl)
 
 -- what an expansion has kept stays kept where it opens more
-pub kept_on : (all : List Entry) (k : ℕ) (old new : List Opened) → ((t : Scene) → IsOpenedPosition old t → IsOpenedPosition new t) → (t : Scene) →
+pub kept_on : (all : List Node) (k : ℕ) (old new : List Opened) → ((t : Scene) → IsOpenedPosition old t → IsOpenedPosition new t) → (t : Scene) →
     IsKept all k old t → IsKept all k new t
 kept_on all k old new still t (inl opened) = inl (still t opened)
 kept_on all k old new still t (inr found) = inr found
 
 -- where each position that was opened has entered, what the expansion keeps was found
-pub expands_found : (board : Board) (cap : Option ℕ) (opened : List Opened) (old all : List Entry) (k : ℕ) (s : Scene) → KeepPlaces old all →
+pub expands_found : (board : Board) (cap : Option ℕ) (opened : List Opened) (old all : List Node) (k : ℕ) (s : Scene) → KeepPlaces old all →
     ((t : Scene) → IsOpenedPosition opened t → IsFoundWithin all (suc k) t) → Expands board cap (IsKept old k opened) k s →
     Expands board cap (IsFoundWithin all (suc k)) k s
 expands_found board cap opened old all k s still entered expands most allowed =
@@ -234,7 +234,7 @@ expands_found board cap opened old all k s still entered expands most allowed =
     by t (inr found) = found_on old all (suc k) t still found
 
 -- an expansion beside what was found is one beside what is found later
-pub expansion_on : (board : Board) (cap : Option ℕ) (old new : List Entry) (from : Expanded) (opened : List Opened) (next : Option ℕ) → KeepPlaces old new →
+pub expansion_on : (board : Board) (cap : Option ℕ) (old new : List Node) (from : Expanded) (opened : List Opened) (next : Option ℕ) → KeepPlaces old new →
     IsExpansion board cap old from opened next → IsExpansion board cap new from opened next
 expansion_on board cap old new from opened next still expansion = record {
   each = expansion.each;
@@ -248,7 +248,7 @@ expansion_on board cap old new from opened next still expansion = record {
     by t (inr found) = inr (found_on old new (suc from.pushes) t still found)
 
 -- the next of them has entered
-pub entered_more : (old new : List Entry) (opened : List Opened) (k i : ℕ) (o : Opened) → KeepPlaces old new → slice_get opened i ≡ Some o →
+pub entered_more : (old new : List Node) (opened : List Opened) (k i : ℕ) (o : Opened) → KeepPlaces old new → slice_get opened i ≡ Some o →
     IsFoundWithin new k o.position → AreEntered old opened k i → AreEntered new opened k (i + 1)
 entered_more old new opened k i o still at found before j u lt there = elim (cases_lt j i) [
   | inl less ↦ found_on old new k u.position still (before j u less there)
@@ -259,7 +259,7 @@ entered_more old new opened k i o still at found before j u lt there = elim (cas
 ]
 
 -- all of them have
-pub entered_all : (all : List Entry) (opened : List Opened) (k count : ℕ) → length opened ≤ count → AreEntered all opened k count →
+pub entered_all : (all : List Node) (opened : List Opened) (k count : ℕ) → length opened ≤ count → AreEntered all opened k count →
     (t : Scene) → IsOpenedPosition opened t → IsFoundWithin all k t
 entered_all all opened k count over entered t (i, o, at, same) =
     subst (IsFoundWithin all k) same (entered i o (let lt = slice_get_within opened i o at in omega (arith, lt, over)) at)
@@ -289,7 +289,7 @@ reached_after board k s n p scene can norm (ds, ps, t, play, here, long) =
 
 -- ---- positions enter, and are closed
 
-pub under_way_entered : (board : Board) (cap : Option ℕ) (old new : List Entry) (e : Entry) (least : ℕ) → IsSearchUnderWay board cap old → Enters old new e →
+pub under_way_entered : (board : Board) (cap : Option ℕ) (old new : List Node) (e : Node) (least : ℕ) → IsSearchUnderWay board cap old → Enters old new e →
     FitsLevel board e.position → IsReachedAfter board e.pushes e.position → e.pushes ≤ length old → ComesFrom board new e e.parent → e.least ≡ Some least →
     IsTotal board cap e.pushes e.position least → IsSearchUnderWay board cap new
 under_way_entered board cap old new e least under enters fits reached few from is total = record {
@@ -312,24 +312,24 @@ under_way_entered board cap old new e least under enters fits reached few from i
     }
 
 -- a position that gets another least total keeps its place, and so do all others
-kept_set : (old : List Entry) (place : ℕ) (x : Entry) (least : Option ℕ) → slice_get old place ≡ Some x → KeepPlaces old (set old place (with_least least x))
+kept_set : (old : List Node) (place : ℕ) (x : Node) (least : Option ℕ) → slice_get old place ≡ Some x → KeepPlaces old (set old place (with_least least x))
 kept_set old place x least here i z there = elim (cases_eq i place) [
   | inl eq ↦ (let e : z ≡ x = same_Some z x (sym there ∙ (ap (λ (k : ℕ). slice_get old k) eq ∙ here)) in (
     with_least least x,
     ap (λ (k : ℕ). slice_get (set old place (with_least least x)) k) eq ∙ set_here old place (with_least least x) (slice_get_within old place x here),
-    ap (λ (w : Entry). w.position) (sym e),
-    (let f = ap (λ (w : Entry). w.pushes) e in omega (arith, f)),
+    ap (λ (w : Node). w.position) (sym e),
+    (let f = ap (λ (w : Node). w.pushes) e in omega (arith, f)),
   ))
   | inr ne ↦ (z, set_there old place i (with_least least x) ne ∙ there, refl, omega arith)
 ]
 
-pub under_way_set : (board : Board) (cap : Option ℕ) (old new : List Entry) (place : ℕ) (x : Entry) (least : Option ℕ) → IsSearchUnderWay board cap old →
+pub under_way_set : (board : Board) (cap : Option ℕ) (old new : List Node) (place : ℕ) (x : Node) (least : Option ℕ) → IsSearchUnderWay board cap old →
     slice_get old place ≡ Some x → ((n : ℕ) → least ≡ Some n → IsLeast cap x.pushes n) →
     IsSettled board cap old (with_least least x) → HasLeastAt old place least new → IsSearchUnderWay board cap new
 under_way_set board cap old new place x least under here total settled has = subst (IsSearchUnderWay board cap) (sym (has x here)) (record {
   begun = (under.begun.0, under.begun.1, found_on old after 0 under.begun.0 still under.begun.2);
   few = λ i z there. (let long = length-set old place y in elim (set_at old place i y z there) [
-    | inl (p, q) ↦ (let same = ap (λ (w : Entry). w.pushes) q in let less = under.few place x here in omega (arith, same, less, long))
+    | inl (p, q) ↦ (let same = ap (λ (w : Node). w.pushes) q in let less = under.few place x here in omega (arith, same, less, long))
     | inr (p, q) ↦ (let less = under.few i z q in omega (arith, less, long))
   ]);
   sound = λ i z there. elim (set_at old place i y z there) [
@@ -338,10 +338,10 @@ under_way_set board cap old new place x least under here total settled has = sub
   ];
 })
   where
-    y : Entry
+    y : Node
     y = with_least least x
 
-    after : List Entry
+    after : List Node
     after = set old place y
 
     still : KeepPlaces old after
@@ -354,7 +354,7 @@ under_way_set board cap old new place x least under here total settled has = sub
         (record { fits = was.fits; reached = was.reached; from = was.from; total = total; settled = settled })
 
 -- the position that was expanded is closed, or has the least total of what was left for later
-pub under_way_expanded : (board : Board) (cap : Option ℕ) (old new : List Entry) (place reach : ℕ) (x : Entry) (next : Option ℕ) → IsSearchUnderWay board cap old →
+pub under_way_expanded : (board : Board) (cap : Option ℕ) (old new : List Node) (place reach : ℕ) (x : Node) (next : Option ℕ) → IsSearchUnderWay board cap old →
     slice_get old place ≡ Some x → x.pushes ≤ reach → ¬ (IsSolved board x.position) → IsLater cap reach next →
     Expands board (tighter cap next) (IsFoundWithin old (suc x.pushes)) x.pushes x.position → HasLeastAt old place next new → IsSearchUnderWay board cap new
 under_way_expanded board cap old new place reach x next under here near unsolved later expands =
@@ -363,7 +363,7 @@ under_way_expanded board cap old new place reach x next under here near unsolved
     (settled_expanded board cap old (with_least next x) next refl unsolved expands)
 
 -- what a push leads to has entered
-pub under_way_after : (board : Board) (cap : Option ℕ) (old new : List Entry) (place k least : ℕ) (s n : Scene) (p : Push) → IsSearchUnderWay board cap old →
+pub under_way_after : (board : Board) (cap : Option ℕ) (old new : List Node) (place k least : ℕ) (s n : Scene) (p : Push) → IsSearchUnderWay board cap old →
     IsFoundAt old place s k → CanPush board s p → IsNorm board (after_push board s p) n → FitsLevel board n → IsTotal board cap (suc k) n least →
     Enters old new (record { position = n; pushes = suc k; least = Some least; parent = Some (record { place = place; push = p }) }) → IsSearchUnderWay board cap new
 under_way_after board cap old new place k least s n p under (x, at, same, count) can norm fits total enters =
@@ -379,7 +379,7 @@ under_way_after board cap old new place k least s n p under (x, at, same, count)
     ) refl total
 
 -- the position keeps its place
-pub place_kept : (k : ℕ) (old new : List Entry) (place : ℕ) (s : Scene) → StayBelow (suc k) old new → IsFoundAt old place s k → IsFoundAt new place s k
+pub place_kept : (k : ℕ) (old new : List Node) (place : ℕ) (s : Scene) → StayBelow (suc k) old new → IsFoundAt old place s k → IsFoundAt new place s k
 place_kept k old new place s below (x, at, same, count) = (x, below place x at (omega (arith, count)), same, count)
 
 pub expanding_fits : (board : Board) (cap : Option ℕ) (v : VisitedView) (from : Expanded) → IsExpanding board cap v from → FitsLevel board from.position
@@ -389,7 +389,7 @@ expanding_fits board cap v from expanding =
 
 -- ---- an expansion goes on
 
-pub goes_then : (first second third : List Entry) → GetsOn first second → GetsOn second third → GetsOn first third
+pub goes_then : (first second third : List Node) → GetsOn first second → GetsOn second third → GetsOn first third
 goes_then first second third one two =
     let a = one.more in
     let b = two.more in record {
@@ -423,7 +423,7 @@ expanding_on board cap old new from was widens = record {
 }
 
 -- the start alone has entered
-pub under_way_first : (board : Board) (cap : Option ℕ) (old new : List Entry) (n : Scene) → IsNorm board (start board) n → FitsLevel board n → old ≡ [] →
+pub under_way_first : (board : Board) (cap : Option ℕ) (old new : List Node) (n : Scene) → IsNorm board (start board) n → FitsLevel board n → old ≡ [] →
     Enters old new ((record { position = n; pushes = 0; least = Some 0; parent = None })) → IsSearchUnderWay board cap new
 under_way_first board cap old new n norm fits none enters = record {
   begun = (n, norm, enters.found);
@@ -434,14 +434,14 @@ under_way_first board cap old new n norm fits none enters = record {
   ];
 }
   where
-    no : (i : ℕ) (x : Entry) → slice_get old i ≡ Some x → ⊥
-    no i x there = let lt = slice_get_within old i x there in let e = ap (λ (xs : List Entry). length xs) none in omega (arith, lt, e)
+    no : (i : ℕ) (x : Node) → slice_get old i ≡ Some x → ⊥
+    no i x there = let lt = slice_get_within old i x there in let e = ap (λ (xs : List Node). length xs) none in omega (arith, lt, e)
 
     any : (cap : Option ℕ) → Allows cap 0
     any None = tt
     any (Some most) = omega arith
 
-    e : Entry
+    e : Node
     e = (record { position = n; pushes = 0; least = Some 0; parent = None })
 
     first : IsSoundEntry board cap new e
@@ -455,18 +455,18 @@ under_way_first board cap old new n norm fits none enters = record {
 
 -- ---- fewer turns are left
 
-pub turns_expanded : (cap : Option ℕ) (first second third : List Entry) (place least reach : ℕ) (x : Entry) (next : Option ℕ) → reach < 4294967296 →
+pub turns_expanded : (cap : Option ℕ) (first second third : List Node) (place least reach : ℕ) (x : Node) (next : Option ℕ) → reach < 4294967296 →
     GetsOn first second → slice_get second place ≡ Some x → x.least ≡ Some least → least ≤ reach → IsLater cap reach next →
     HasLeastAt second place next third → (limit : ℕ) → length third ≤ limit → turns_left limit third < turns_left limit first
 turns_expanded cap first second third place least reach x next range on at open_ near later has limit le =
     let y = with_least next x in
     let is = has x at in
     let long = length-set second place y in
-    let size = ap (λ (xs : List Entry). length xs) is in
+    let size = ap (λ (xs : List Node). length xs) is in
     let less = subst (λ (o : Option ℕ). openness next < openness o) (sym open_) (by next later) in
     let fewer = fewer_turns second place limit x y at (omega (arith, less)) in
     let before = on.turns limit (omega (arith, long, size, le)) in
-    let same = ap (λ (xs : List Entry). turns_left limit xs) is in
+    let same = ap (λ (xs : List Node). turns_left limit xs) is in
     omega (arith, fewer, before, same)
   where
     by : (o : Option ℕ) → IsLater cap reach o → openness o < openness (Some least)
@@ -474,7 +474,7 @@ turns_expanded cap first second third place least reach x next range on at open_
     by (Some n) later = let lt = (later n refl).0 in omega (arith, range, near, lt)
 
 -- what is left of a search's turns, as a number that lessens with each round
-pub rounds_lessen : (limit : ℕ) (old new : List Entry) → length old ≤ limit → (length new ≤ limit → turns_left limit new < turns_left limit old) →
+pub rounds_lessen : (limit : ℕ) (old new : List Node) → length old ≤ limit → (length new ≤ limit → turns_left limit new < turns_left limit old) →
     cond (nat_lt limit (length new)) 0 (1 + turns_left limit new) < cond (nat_lt limit (length old)) 0 (1 + turns_left limit old)
 rounds_lessen limit old new few less = by (nat_lt limit (length old)) (nat_lt limit (length new)) refl refl
   where
@@ -484,19 +484,19 @@ rounds_lessen limit old new few less = by (nat_lt limit (length old)) (nat_lt li
     by false true e f = omega arith
     by false false e f = let lt = less (ltb-false limit (length new) f) in omega (arith, lt)
 
-pub goes_expanded : (first second third : List Entry) (place : ℕ) (x : Entry) (next : Option ℕ) → GetsOn first second → slice_get second place ≡ Some x →
+pub goes_expanded : (first second third : List Node) (place : ℕ) (x : Node) (next : Option ℕ) → GetsOn first second → slice_get second place ≡ Some x →
     HasLeastAt second place next third → ((limit : ℕ) → length third ≤ limit → turns_left limit third < turns_left limit first) → GetsOn first third
 goes_expanded first second third place x next on at has fewer =
     let long = length-set second place (with_least next x) in
-    let size = ap (λ (xs : List Entry). length xs) (has x at) in
+    let size = ap (λ (xs : List Node). length xs) (has x at) in
     let more = on.more in record {
       still = kept_then first second third on.still
-          (subst (λ (xs : List Entry). KeepPlaces second xs) (sym (has x at)) (kept_set second place x next at));
+          (subst (λ (xs : List Node). KeepPlaces second xs) (sym (has x at)) (kept_set second place x next at));
       more = omega (arith, long, size, more);
       turns = λ limit le. (let less = fewer limit le in omega (arith, less));
     }
 
-pub turns_then : (limit : ℕ) (first second third : List Entry) → (length second ≤ limit → turns_left limit second < turns_left limit first) →
+pub turns_then : (limit : ℕ) (first second third : List Node) → (length second ≤ limit → turns_left limit second < turns_left limit first) →
     GetsOn second third → length third ≤ limit → turns_left limit third < turns_left limit first
 turns_then limit first second third less on le =
     let more = on.more in

@@ -11,7 +11,7 @@ use Rattle.area.specs.Pushes.{CanPush}
 use Rattle.successors.specs.Expansion.{after_push}
 use Rattle.prices.specs.Solving.{Allows, SolvableWithin}
 use Rattle.store.specs.declared.visited.Parent.{Parent}
-use Rattle.store.specs.Visited.{Entry}
+use Rattle.store.specs.Visited.{Node}
 
 -- ---- what an expansion owes
 
@@ -23,14 +23,14 @@ Keeps board most Kept k s = (m : ℕ) → k + suc m ≤ most → ¬ (IsSolved bo
     (t : Scene) × Kept t × SolvableWithin board m t
 
 -- the position was found with at most k pushes
-abbrev pub IsFoundWithin : List Entry → ℕ → Scene → Type 0
-IsFoundWithin all k s = (i : ℕ) × (x : Entry) × (slice_get all i ≡ Some x) × (x.position ≡ s) × (x.pushes ≤ k)
+abbrev pub IsFoundWithin : List Node → ℕ → Scene → Type 0
+IsFoundWithin all k s = (i : ℕ) × (x : Node) × (slice_get all i ≡ Some x) × (x.position ≡ s) × (x.pushes ≤ k)
 
 -- ---- what holds of each position that was found
 
 -- for plays with at most `most` pushes in all, nothing is left to do: the position is not a solved one with so few,
 -- and what its expansion has to keep was found
-pub record IsDoneFor (board : Board) (most : ℕ) (all : List Entry) (x : Entry) : Type 0 where
+pub record IsDoneFor (board : Board) (most : ℕ) (all : List Node) (x : Node) : Type 0 where
   pub unsolved : IsSolved board x.position → most < x.pushes
   pub keeps : Keeps board most (IsFoundWithin all (suc x.pushes)) x.pushes x.position
 
@@ -59,13 +59,13 @@ IsBelowLeast None m = Unit {0}
 IsBelowLeast (Some least) m = m < least
 
 -- an open position is done for all totals below its least, and a closed one for all that the cap allows
-abbrev pub IsSettled : Board → Option ℕ → List Entry → Entry → Type 0
+abbrev pub IsSettled : Board → Option ℕ → List Node → Node → Type 0
 IsSettled board cap all x = (most : ℕ) → Allows cap most → IsBelowLeast x.least most → IsDoneFor board most all x
 
 -- the parent was found with fewer pushes, and the push leads from it to the position; without a parent it is the start
-abbrev pub ComesFrom : Board → List Entry → Entry → Option Parent → Type 0
+abbrev pub ComesFrom : Board → List Node → Node → Option Parent → Type 0
 ComesFrom board all x None = IsNorm board (start board) x.position
-ComesFrom board all x (Some step) = (y : Entry) × (slice_get all step.place ≡ Some y) × (y.pushes < x.pushes) ×
+ComesFrom board all x (Some step) = (y : Node) × (slice_get all step.place ≡ Some y) × (y.pushes < x.pushes) ×
     CanPush board y.position step.push × IsNorm board (after_push board y.position step.push) x.position
 
 -- a play with k pushes leads from the start to a state whose normal form is the position
@@ -74,30 +74,30 @@ IsReachedAfter board k n = (ds : List Dir) × (ps : List Push) × (s : Scene) ×
     IsNorm board s n × (length ps ≡ k)
 
 -- what is true of each position that was found
-pub record IsSoundEntry (board : Board) (cap : Option ℕ) (all : List Entry) (x : Entry) : Type 0 where
+pub record IsSoundEntry (board : Board) (cap : Option ℕ) (all : List Node) (x : Node) : Type 0 where
   pub fits : FitsLevel board x.position
   pub reached : IsReachedAfter board x.pushes x.position
   pub from : ComesFrom board all x x.parent
   pub total : (least : ℕ) → x.least ≡ Some least → IsLeast cap x.pushes least
   pub settled : IsSettled board cap all x
 
-abbrev pub AreSoundEntries : Board → Option ℕ → List Entry → Type 0
-AreSoundEntries board cap all = (i : ℕ) (x : Entry) → slice_get all i ≡ Some x → IsSoundEntry board cap all x
+abbrev pub AreSoundEntries : Board → Option ℕ → List Node → Type 0
+AreSoundEntries board cap all = (i : ℕ) (x : Node) → slice_get all i ≡ Some x → IsSoundEntry board cap all x
 
 -- each was found with fewer pushes than there are positions
-abbrev pub AreFew : List Entry → Type 0
-AreFew all = (i : ℕ) (x : Entry) → slice_get all i ≡ Some x → x.pushes < length all
+abbrev pub AreFew : List Node → Type 0
+AreFew all = (i : ℕ) (x : Node) → slice_get all i ≡ Some x → x.pushes < length all
 
 -- a search is under way: it began with the start
-pub record IsSearchUnderWay (board : Board) (cap : Option ℕ) (all : List Entry) : Type 0 where
+pub record IsSearchUnderWay (board : Board) (cap : Option ℕ) (all : List Node) : Type 0 where
   pub begun : (n : Scene) × IsNorm board (start board) n × IsFoundWithin all 0 n
   pub few : AreFew all
   pub sound : AreSoundEntries board cap all
 
 -- some open position leads to a solution with at most m pushes in all
-pub record IsOnTheWay (board : Board) (m : ℕ) (all : List Entry) : Type 0 where
+pub record IsOnTheWay (board : Board) (m : ℕ) (all : List Node) : Type 0 where
   pub place : ℕ
-  pub entry : Entry
+  pub entry : Node
   pub least : ℕ
   pub rest : ℕ
   pub at : slice_get all place ≡ Some entry
@@ -107,12 +107,12 @@ pub record IsOnTheWay (board : Board) (m : ℕ) (all : List Entry) : Type 0 wher
   pub solvable : SolvableWithin board rest entry.position
 
 -- each open position has a least total of at least k
-abbrev pub AreFrom : ℕ → List Entry → Type 0
-AreFrom k all = (i : ℕ) (x : Entry) (least : ℕ) → slice_get all i ≡ Some x → x.least ≡ Some least → k ≤ least
+abbrev pub AreFrom : ℕ → List Node → Type 0
+AreFrom k all = (i : ℕ) (x : Node) (least : ℕ) → slice_get all i ≡ Some x → x.least ≡ Some least → k ≤ least
 
 -- no position is open
-abbrev pub NoneIsOpen : List Entry → Type 0
-NoneIsOpen all = (i : ℕ) (x : Entry) → slice_get all i ≡ Some x → x.least ≡ None
+abbrev pub NoneIsOpen : List Node → Type 0
+NoneIsOpen all = (i : ℕ) (x : Node) → slice_get all i ≡ Some x → x.least ≡ None
 
 -- ---- the laws
 
@@ -120,16 +120,16 @@ NoneIsOpen all = (i : ℕ) (x : Entry) → slice_get all i ≡ Some x → x.leas
 -- most m
 abbrev pub NothingIsLost : Board → Type 0
 NothingIsLost board =
-    IsLevel board → (cap : Option ℕ) (all : List Entry) (m : ℕ) → IsSearchUnderWay board cap all → Allows cap m →
+    IsLevel board → (cap : Option ℕ) (all : List Node) (m : ℕ) → IsSearchUnderWay board cap all → Allows cap m →
     SolvableWithin board m (start board) → IsOnTheWay board m all
 
 -- so each solution that the cap allows has at least as many pushes as the least total of all open positions
 abbrev pub LeastBounds : Board → Type 0
 LeastBounds board =
-    IsLevel board → (cap : Option ℕ) (all : List Entry) (k : ℕ) → IsSearchUnderWay board cap all → AreFrom k all →
+    IsLevel board → (cap : Option ℕ) (all : List Node) (k : ℕ) → IsSearchUnderWay board cap all → AreFrom k all →
     (ds : List Dir) (ps : List Push) → IsSolution board ds ps → Allows cap (length ps) → k ≤ length ps
 
 -- and where no position is open, there is no solution that the cap allows
 abbrev pub ClosedDecides : Board → Type 0
-ClosedDecides board = IsLevel board → (cap : Option ℕ) (all : List Entry) → IsSearchUnderWay board cap all →
+ClosedDecides board = IsLevel board → (cap : Option ℕ) (all : List Node) → IsSearchUnderWay board cap all →
     NoneIsOpen all → (ds : List Dir) (ps : List Push) → IsSolution board ds ps → ¬ (Allows cap (length ps))

@@ -24,12 +24,12 @@ pub(crate) fn expand(
     requires searched { IsSearchOnBoard pruner.now.board pruner.now.cap frontier.old }
     requires waits { IsWaiting frontier.old.entries from.now }
     requires ready { MayBeExpanded pruner.now.board from.now }
-    requires task { workspace.old.expander.task ≡ pruner.now }
+    requires problem { workspace.old.expander.problem ≡ pruner.now }
     ensures searched { OnOk result (IsSearchOnBoard pruner.now.board pruner.now.cap frontier.new) }
     ensures goes_on { OnOk result (GetsOn frontier.old.entries frontier.new.entries) }
     ensures fewer_turns { OnOk result ((limit : ℕ) → length frontier.new.entries ≤ limit →
         turns_left limit frontier.new.entries < turns_left limit frontier.old.entries) }
-    ensures task { workspace.new.expander.task ≡ workspace.old.expander.task }
+    ensures problem { workspace.new.expander.problem ≡ workspace.old.expander.problem }
 {
     open_all(pruner, frontier, from, workspace)?;
     enter(
@@ -51,10 +51,10 @@ pub(crate) fn open_all(
 ) -> Result<(), AllocError>
     requires size { HasSize pruner.now.board frontier.now }
     requires expandable { IsExpandable pruner.now.board from.now }
-    requires task { workspace.old.expander.task ≡ pruner.now }
+    requires problem { workspace.old.expander.problem ≡ pruner.now }
     ensures expansion { OnOk result (IsExpansion pruner.now.board pruner.now.cap frontier.now.entries from.now
         workspace.new.opened.items workspace.new.next) }
-    ensures task { workspace.new.expander.task ≡ workspace.old.expander.task }
+    ensures problem { workspace.new.expander.problem ≡ workspace.old.expander.problem }
 {
     workspace.opened.clear();
     workspace.expander.find_pushes(&from.position);

@@ -4,7 +4,7 @@ ghost use Rattle.std.specs.Prelude.{OnOk, Some, [], length};
 ghost use Rattle.std.specs.Prelude.{map, slice_get};
 ghost use Rattle.grid.specs.Lawful.{box_count};
 ghost use Rattle.store.specs.FoundView.{FitsGrid};
-ghost use Rattle.store.specs.Visited.{Entry};
+ghost use Rattle.store.specs.Visited.{Node};
 ghost use Rattle.successors.specs.Distances.{AreDistinct};
 ghost use Rattle.prover.specs.Frontier.{IsFoundWithin, NoneIsOpen};
 ghost use Rattle.std.specs.BinaryHeap.{heap_capacity, heap_items, heap_len};
@@ -64,7 +64,7 @@ impl Frontier {
     /// The position at a place.
     pub(crate) fn position(&self, place: usize) -> Position
         requires { place < length self.now.entries }
-        ensures { (x : Entry) → slice_get self.now.entries place ≡ Some x → result ≡ x.position }
+        ensures { (x : Node) → slice_get self.now.entries place ≡ Some x → result ≡ x.position }
     {
         self.visited.position(place)
     }
@@ -72,7 +72,7 @@ impl Frontier {
     /// The number of pushes that lead to the position at a place.
     pub(crate) fn pushes(&self, place: usize) -> u32
         requires { place < length self.now.entries }
-        ensures { (x : Entry) → slice_get self.now.entries place ≡ Some x → result ≡ x.pushes }
+        ensures { (x : Node) → slice_get self.now.entries place ≡ Some x → result ≡ x.pushes }
     {
         self.visited.label(place).pushes
     }
@@ -80,7 +80,7 @@ impl Frontier {
     /// The last push that leads to the position at a place, and the place before it. `None` for the start.
     pub(crate) fn parent(&self, place: usize) -> Option<Parent>
         requires { place < length self.now.entries }
-        ensures { (x : Entry) → slice_get self.now.entries place ≡ Some x → result ≡ x.parent }
+        ensures { (x : Node) → slice_get self.now.entries place ≡ Some x → result ≡ x.parent }
     {
         self.visited.label(place).parent
     }
@@ -175,7 +175,7 @@ impl Frontier {
         requires place { place < length self.now.entries }
         requires few { length self.now.entries < 2 ^ 32 }
         ensures place { (result.place ≡ place) × (result.reach ≡ reach) }
-        ensures entry { (x : Entry) → slice_get self.now.entries place ≡ Some x →
+        ensures entry { (x : Node) → slice_get self.now.entries place ≡ Some x →
             (result.position ≡ x.position) × (result.pushes ≡ x.pushes) }
     {
         Expanded {
@@ -242,7 +242,7 @@ impl Frontier {
 
     /// States that no position has two places.
     pub(crate) fn tell(&self)
-        ensures { AreDistinct (map (λ (x : Entry). x.position) self.now.entries) }
+        ensures { AreDistinct (map (λ (x : Node). x.position) self.now.entries) }
     {
         self.visited.tell();
     }
@@ -265,7 +265,7 @@ fn put_back(visited: &Visited, queue: &mut Queue) -> Result<(), AllocError>
 // Inserts the ticket, if its position is open with the ticket's total.
 fn insert_open(visited: &Visited, queue: &mut Queue, ticket: Ticket)
     requires { heap_len queue.old.heap < heap_capacity queue.old.heap }
-    ensures waits { (x : Entry) → slice_get visited.now.entries ticket.place ≡ Some x →
+    ensures waits { (x : Node) → slice_get visited.now.entries ticket.place ≡ Some x →
         x.least ≡ Some ticket.least.0 → Waits (heap_items queue.new.heap) ticket.least.0 ticket.place }
     ensures others { (least place : ℕ) →
         Waits (heap_items queue.old.heap) least place → Waits (heap_items queue.new.heap) least place }
@@ -281,9 +281,9 @@ fn insert_open(visited: &Visited, queue: &mut Queue, ticket: Ticket)
 // Whether the ticket's position is open with the ticket's total.
 fn is_open(visited: &Visited, ticket: Ticket) -> bool
     ensures waits { IsTrue result →
-        (x : Entry) × (slice_get visited.now.entries ticket.place ≡ Some x) × (x.least ≡ Some ticket.least.0) }
+        (x : Node) × (slice_get visited.now.entries ticket.place ≡ Some x) × (x.least ≡ Some ticket.least.0) }
     ensures closed { IsFalse result →
-        (x : Entry) → slice_get visited.now.entries ticket.place ≡ Some x → ¬ (x.least ≡ Some ticket.least.0) }
+        (x : Node) → slice_get visited.now.entries ticket.place ≡ Some x → ¬ (x.least ≡ Some ticket.least.0) }
 {
     let Ticket { least, place, .. } = ticket;
     if place >= visited.len() {

@@ -31,9 +31,9 @@ pub(crate) struct Pruner<'a> {
 impl<'a> Model for Pruner<'a> {
     ghost use Rattle.std.specs.Prelude.{◌≡◌};
     ghost use Rattle.prover.specs.Parity.{AreOdd};
-    ghost use Rattle.successors.specs.Tasks.{Task};
+    ghost use Rattle.successors.specs.Problems.{Problem};
 
-    ghost Value = { Task };
+    ghost Value = { Problem };
 
     ghost view = { λ a. a.problem.now };
 

@@ -42,7 +42,7 @@ pub(crate) fn try_push(
     only: bool,
     workspace: &mut Workspace<'_>,
 ) -> Result<(), AllocError>
-    requires task { workspace.old.expander.task ≡ pruner.now }
+    requires problem { workspace.old.expander.problem ≡ pruner.now }
     requires found { HasPushesOf workspace.old.expander from.now.position }
     requires possible { CanPush pruner.now.board from.now.position push }
     requires expandable { IsExpandable pruner.now.board from.now }
@@ -87,7 +87,7 @@ fn open_after(
     push: Push,
     workspace: &mut Workspace<'_>,
 ) -> Result<(), AllocError>
-    requires task { workspace.old.expander.task ≡ pruner.now }
+    requires problem { workspace.old.expander.problem ≡ pruner.now }
     requires found { HasPushesOf workspace.old.expander from.now.position }
     requires possible { CanPush pruner.now.board from.now.position push }
     requires expandable { IsExpandable pruner.now.board from.now }

@@ -1,7 +1,7 @@
 //! The play that leads to a position, read back from push to push.
 ghost use Rattle.std.specs.Prelude.{◌≡◌, ◌<◌, ◌≤◌, ℕ, IfOk, Option, Some, length, slice_get};
 ghost use Rattle.grid.specs.Board.{Board};
-ghost use Rattle.store.specs.Visited.{Entry};
+ghost use Rattle.store.specs.Visited.{Node};
 ghost use Rattle.prover.specs.Outcomes.{IsOutcome};
 ghost use Rattle.prover.specs.inside.SearchEnds.{IsLeastSolved};
 ghost use Rattle.prover.specs.inside.Working.{AreLeading, AreTraced};
@@ -36,7 +36,7 @@ pub(crate) fn solution_at(
 fn pushes_to(alloc: Global, frontier: &Frontier, place: usize) -> Result<Vec<Push>, AllocError>
     requires traced { (board : Board) × AreTraced board frontier.now.entries }
     requires place { place < length frontier.now.entries }
-    ensures { IfOk result (λ pushes. (board : Board) (x : Entry) →
+    ensures { IfOk result (λ pushes. (board : Board) (x : Node) →
         AreTraced board frontier.now.entries → slice_get frontier.now.entries place ≡ Some x →
         AreLeading board pushes.items x.position × (length pushes.items ≤ x.pushes)) }
 {

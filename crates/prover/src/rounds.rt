@@ -1,13 +1,13 @@
 //! Rounds: in each the search expands several open positions side by side, and then enters what was found.
 ghost use Rattle.std.specs.Prelude.{◌≡◌, ◌<◌, ◌≤◌, ◌^◌, List, IfOk, OnOk, length};
-ghost use Rattle.store.specs.Visited.{Entry};
-ghost use Rattle.successors.specs.Tasks.{Task};
-ghost use Rattle.prover.specs.inside.Rounds.{AreLanes, IsDesk, IsJob, IsLane};
+ghost use Rattle.store.specs.Visited.{Node};
+ghost use Rattle.successors.specs.Problems.{Problem};
+ghost use Rattle.prover.specs.inside.Rounds.{AreLanes, IsDesk, IsPick, IsLane};
 ghost use Rattle.prover.specs.inside.Working.{GetsOn, HasSize, IsSearchOnBoard};
 
 use crate::expansion::expand;
 use crate::frontier::Frontier;
-use crate::lane::{Job, Lane, do_jobs};
+use crate::lane::{Lane, Pick, do_picks};
 use crate::pruner::Pruner;
 use crate::recording::enter;
 use crate::searching::is_solved;
@@ -36,7 +36,7 @@ pub(crate) struct Desk<'a> {
 impl<'a> Desk<'a> {
     /// A desk without lanes. Fails only if out of memory.
     pub(crate) fn new(alloc: Global, pruner: &Pruner<'a>) -> Result<Desk<'a>, AllocError>
-        ensures { IfOk result (λ desk. (all : List Entry) → IsDesk pruner.now all desk) }
+        ensures { IfOk result (λ desk. (all : List Node) → IsDesk pruner.now all desk) }
     {
         Ok(Desk {
             workspace: Workspace::new(alloc, pruner.problem())?,
@@ -100,7 +100,7 @@ fn add_lanes<'a>(
     pruner: &Pruner<'a>,
     lanes: &mut Vec<Lane<'a>>,
 ) -> Result<(), AllocError>
-    ensures lanes { OnOk result ((all : List Entry) → AreLanes pruner.now all lanes.old.items →
+    ensures lanes { OnOk result ((all : List Node) → AreLanes pruner.now all lanes.old.items →
         AreLanes pruner.now all lanes.new.items) }
     ensures all { OnOk result (LANES ≤ length lanes.new.items) }
 {
@@ -146,9 +146,9 @@ fn deal(
     Ok(count)
 }
 
-// Forgets the jobs of each lane.
+// Forgets the picks of each lane.
 fn clear_all(lanes: &mut [Lane<'_>])
-    ensures lanes { (t : Task) (all : List Entry) → AreLanes t all lanes.old → AreLanes t all lanes.new }
+    ensures lanes { (t : Problem) (all : List Node) → AreLanes t all lanes.old → AreLanes t all lanes.new }
     ensures all { length lanes.new ≡ length lanes.old }
 {
     for index in 0..lanes.len() {
@@ -156,7 +156,7 @@ fn clear_all(lanes: &mut [Lane<'_>])
     }
 }
 
-// Does the jobs of each lane, in at most `threads` threads. Each job sees the frontier as it was before the round.
+// Does the picks of each lane, in at most `threads` threads. Each pick sees the frontier as it was before the round.
 fn do_each<R: Threads + Sync>(
     rt: &R,
     pruner: &Pruner<'_>,
@@ -177,11 +177,11 @@ fn do_each<R: Threads + Sync>(
             requires size { HasSize pruner.now.board frontier.now }
             requires lane { IsLane pruner.now frontier.now.entries lane.now }
             ensures { IsLane pruner.entry.now frontier.entry.now.entries lane.exit.now }
-        { do_jobs(pruner, frontier, lane) },
+        { do_picks(pruner, frontier, lane) },
     );
 }
 
-// Enters what the first jobs have found, in the order in which they were dealt, until the search has found more
+// Enters what the first picks have found, in the order in which they were dealt, until the search has found more
 // positions than the limit.
 fn enter_each(
     pruner: &Pruner<'_>,
@@ -194,42 +194,48 @@ fn enter_each(
     requires searched { IsSearchOnBoard pruner.now.board pruner.now.cap frontier.old }
     requires lanes { AreLanes pruner.now frontier.old.entries lanes.now }
     requires all { LANES ≤ length lanes.now }
-    requires task { workspace.old.expander.task ≡ pruner.now }
+    requires problem { workspace.old.expander.problem ≡ pruner.now }
     ensures searched { OnOk result (IsSearchOnBoard pruner.now.board pruner.now.cap frontier.new) }
     ensures goes_on { OnOk result (GetsOn frontier.old.entries frontier.new.entries) }
-    ensures task { workspace.new.expander.task ≡ workspace.old.expander.task }
+    ensures problem { workspace.new.expander.problem ≡ workspace.old.expander.problem }
 {
     for index in 0..count {
-        let jobs = lanes[index % LANES].jobs.as_slice();
-        if index / LANES >= jobs.len() || frontier.len() > limit as usize {
+        let picks = lanes[index % LANES].picks.as_slice();
+        if index / LANES >= picks.len() || frontier.len() > limit as usize {
             break;
         }
-        enter_job(pruner, frontier, &jobs[index / LANES], workspace)?;
+        enter_pick(pruner, frontier, &picks[index / LANES], workspace)?;
     }
     Ok(())
 }
 
-// Enters what a job has found. Leaves it out if the position was found with fewer pushes meanwhile, was closed, or was
-// put off to greater totals. Expands the position here if the job's thread ran out of memory.
-fn enter_job(
+// Enters what a pick has found. Leaves it out if the position was found with fewer pushes meanwhile, was closed, or was
+// put off to greater totals. Expands the position here if the pick's thread ran out of memory.
+fn enter_pick(
     pruner: &Pruner<'_>,
     frontier: &mut Frontier,
-    job: &Job,
+    pick: &Pick,
     workspace: &mut Workspace<'_>,
 ) -> Result<(), AllocError>
     requires searched { IsSearchOnBoard pruner.now.board pruner.now.cap frontier.old }
-    requires job { IsJob pruner.now frontier.old.entries job.now }
-    requires task { workspace.old.expander.task ≡ pruner.now }
+    requires pick { IsPick pruner.now frontier.old.entries pick.now }
+    requires problem { workspace.old.expander.problem ≡ pruner.now }
     ensures searched { OnOk result (IsSearchOnBoard pruner.now.board pruner.now.cap frontier.new) }
     ensures goes_on { OnOk result (GetsOn frontier.old.entries frontier.new.entries) }
-    ensures task { workspace.new.expander.task ≡ workspace.old.expander.task }
+    ensures problem { workspace.new.expander.problem ≡ workspace.old.expander.problem }
 {
-    let waits = frontier.waits(&job.from);
+    let waits = frontier.waits(&pick.from);
     if !waits {
         return Ok(());
     }
-    if !job.is_done {
-        return expand(pruner, frontier, &job.from, workspace);
+    if !pick.is_done {
+        return expand(pruner, frontier, &pick.from, workspace);
     }
-    enter(pruner, frontier, &job.from, job.opened.as_slice(), job.next)
+    enter(
+        pruner,
+        frontier,
+        &pick.from,
+        pick.opened.as_slice(),
+        pick.next,
+    )
 }

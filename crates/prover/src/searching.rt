@@ -5,7 +5,7 @@ ghost use Rattle.grid.specs.Board.{Board, IsSolved, start};
 ghost use Rattle.grid.specs.Lawful.{box_count};
 ghost use Rattle.grid.specs.States.{FitsLevel};
 ghost use Rattle.area.specs.Area.{IsNorm};
-ghost use Rattle.store.specs.Visited.{Entry};
+ghost use Rattle.store.specs.Visited.{Node};
 ghost use Rattle.successors.specs.Capping.{capped};
 ghost use Rattle.prover.specs.Outcomes.{IsFault, IsOutcome};
 ghost use Rattle.prover.specs.inside.SearchEnds.{IsFloor, Tells, none_by};
@@ -274,7 +274,7 @@ fn add_tables<R: Threads + Sync>(
 
 // Whether a search ended before its limit.
 fn is_decided(end: SearchEnd) -> bool
-    ensures { IsTrue result → (board : Board) (cap : Option ℕ) (few limit : ℕ) (all : List Entry) →
+    ensures { IsTrue result → (board : Board) (cap : Option ℕ) (few limit : ℕ) (all : List Node) →
         Tells board cap few all end → Tells board cap limit all end }
 {
     match end {

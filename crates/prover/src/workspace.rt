@@ -23,7 +23,7 @@ pub(crate) struct Workspace<'a> {
 impl<'a> Workspace<'a> {
     /// A workspace for a problem. Fails only if out of memory.
     pub(crate) fn new(alloc: Global, problem: &'a Problem) -> Result<Workspace<'a>, AllocError>
-        ensures { IfOk result (λ workspace. workspace.expander.task ≡ problem.now) }
+        ensures { IfOk result (λ workspace. workspace.expander.problem ≡ problem.now) }
     {
         Ok(Workspace {
             expander: Expander::new(alloc, problem)?,

@@ -5,7 +5,7 @@ use Rattle.std.proofs.lemmas.Bool.{cases_lt, eqb-true, ne_eqb, true≢false}
 use Rattle.std.proofs.lemmas.List.{get_or_past}
 use Rattle.std.proofs.lemmas.Nat.{and_comm, and_or_apart, and_or_self}
 use Rattle.std.specs.Int.Bits.{and_zero_l, and_zero_r}
-use Rattle.regions.specs.inside.Listing.{IsApart, bit_of, box_in}
+use Rattle.regions.specs.inside.Listing.{HasOwnBit, bit_of, box_in}
 
 -- no bits, no boxes
 pub no_box : (bits : List ℕ) (q : ℕ) → box_in bits 0 q ≡ false
@@ -16,7 +16,7 @@ pub box_put : (bits : List ℕ) (set x : ℕ) → bit_of bits x ≢ 0 → box_in
 box_put bits set x some =
     ap (λ (n : ℕ). not (n == 0)) (and_or_self (bit_of bits x) set) ∙ ap not (ne_eqb (bit_of bits x) 0 some)
 
-pub box_other : (bits : List ℕ) (set x q : ℕ) → IsApart bits x → x ≢ q
+pub box_other : (bits : List ℕ) (set x q : ℕ) → HasOwnBit bits x → x ≢ q
     → box_in bits (bit_or set (bit_of bits x)) q ≡ box_in bits set q
 box_other bits set x q apart ne =
     ap (λ (n : ℕ). not (n == 0)) (and_or_apart (bit_of bits q) set (bit_of bits x) (apart q ne))
@@ -42,7 +42,7 @@ both_free set a b first second =
 
 -- what no square of the list shares, no square shares
 pub apart_from_all : (bits : List ℕ) (x : ℕ)
-    → ((q : ℕ) → q < length bits → x ≢ q → bit_and (bit_of bits x) (bit_of bits q) ≡ 0) → IsApart bits x
+    → ((q : ℕ) → q < length bits → x ≢ q → bit_and (bit_of bits x) (bit_of bits q) ≡ 0) → HasOwnBit bits x
 apart_from_all bits x all q ne = elim (cases_lt q (length bits)) [
   | inl lt ↦ all q lt ne
   | inr ge ↦ ap (λ (n : ℕ). bit_and (bit_of bits x) n) (get_or_past bits q 0 ge) ∙ and_zero_r (bit_of bits x)

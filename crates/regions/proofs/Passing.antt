@@ -11,7 +11,7 @@ use Rattle.regions.specs.declared.table.RegionTable.{RegionTable}
 use Rattle.regions.specs.Regions.{IsLeft}
 use Rattle.regions.specs.inside.Checks.{SeatPays, SetPasses, WalksKeep}
 use Rattle.regions.specs.inside.Listing.{AreListed, PaysFor, WalkKeeps, bit_of, box_in, push_in, walk_in}
-use Rattle.regions.specs.inside.Tables.{byte_in, entry_of, row_of}
+use Rattle.regions.specs.inside.Tables.{byte_in, byte_for, row_of}
 use Rattle.regions.proofs.Bits.{both_free, box_bit, free_bit}
 
 -- a push pays where its waste pays for what was before it
@@ -68,10 +68,10 @@ module _ (board : Board) (t : RegionTable) (bits : List ℕ) (waste : ℕ → Di
       → ((i : ℕ) (p : PushStep) → slice_get ps i ≡ Some p → bit_and set p.seat ≢ 0 → PaysFor t set high low p)
       → (1 ≤ left → (i : ℕ) (p : PushStep) → slice_get es i ≡ Some p → PaysFor t set high low p)
       → (((q : ℕ) → contains seats q ≡ true → box_in bits set q ≡ is_goal board q)
-      → (p : ℕ) → p < length board.cells → entry_of t row p ≡ 0)
+      → (p : ℕ) → p < length board.cells → byte_for t row p ≡ 0)
       → SetPasses board t waste seats (box_in bits set) high low left
   set_passes row left ws ps es is ws_are ps_are es_are keep pushes entries home = record {
-    home = λ same p inside. subst (λ (r : ℕ). entry_of t r p ≡ 0) is (home same p inside);
+    home = λ same p inside. subst (λ (r : ℕ). byte_for t r p ≡ 0) is (home same p inside);
     walk = λ z there. walks_pass (λ i w has. subst (λ (r : ℕ). WalkKeeps t set r w) is
         (keep i w (subst (λ (xs : List WalkStep). slice_get xs i ≡ Some w) (sym ws_are) has))) z there;
     seat = λ q there d. seats_pass left

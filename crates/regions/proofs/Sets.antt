@@ -18,12 +18,12 @@ use Rattle.prices.proofs.lemmas.Prices.{sum_inserted, sum_put_back}
 use Rattle.prices.proofs.lemmas.Solved.{solved_are_goals}
 use Rattle.regions.specs.declared.table.RegionTable.{RegionTable}
 use Rattle.regions.specs.Regions.{IsLeft, IsRegion, endless}
-use Rattle.regions.specs.inside.Tables.{entry_at, entry_of, high_of, is_seat, low_of, place_of, row_of, says}
+use Rattle.regions.specs.inside.Tables.{entry_at, byte_for, high_of, is_seat, low_of, place_of, row_of, says}
 use Rattle.regions.proofs.Each.{none_left}
 use Rattle.regions.proofs.Bits.{box_other, box_put, no_bit, no_box}
 use Rattle.regions.proofs.lemmas.Excess.{same_or}
 use Rattle.regions.specs.inside.Checks.{HasSteps, IsVacant, Pays, SetPasses, SetsPass, one, sum_where}
-use Rattle.regions.specs.inside.Listing.{IsApart, bit_of, box_in}
+use Rattle.regions.specs.inside.Listing.{HasOwnBit, bit_of, box_in}
 
 -- ---- sums over the seats are sums over the boxes
 
@@ -192,15 +192,15 @@ module _ (board : Board) (t : RegionTable) (waste : ℕ → Dir → ℕ) (seats 
       back : next board q (opposite d) ≡ p
       back = next_back board p d here.0 there.0
 
-      by : (m : ℕ) → place_of t p ≡ m → (n : ℕ) → place_of t q ≡ n → entry_of t row p ≤ entry_of t row q
+      by : (m : ℕ) → place_of t p ≡ m → (n : ℕ) → place_of t q ≡ n → byte_for t row p ≤ byte_for t row q
       by zero first zero second =
-          let e : entry_of t row p ≡ entry_of t row q =
+          let e : byte_for t row p ≡ byte_for t row q =
           ap (λ (k : ℕ). slice_index_or t.bytes.items (row + k) 0) (first ∙ sym second) in
           omega (arith, e)
       by zero first (suc n) second =
           let listed_q = (listed q (inside_grid board q there.0)).square (λ e. omega (arith, e, second)) in
           let keeps = passes.walk q listed_q there (opposite d) (subst (IsVacant board box) (sym back) here) in
-          subst (λ (y : ℕ). place_of t y ≡ 0 → entry_of t row y ≤ entry_of t row q) back keeps.back first
+          subst (λ (y : ℕ). place_of t y ≡ 0 → byte_for t row y ≤ byte_for t row q) back keeps.back first
       by (suc m) first n second =
           let listed_p = (listed p (inside_grid board p here.0)).square (λ e. omega (arith, e, first)) in
           (passes.walk p listed_p here d there).there
@@ -394,7 +394,7 @@ module _ (board : Board) (t : RegionTable) (waste : ℕ → Dir → ℕ) (seats 
 
   pub next_of : (rest : Squares) (x : ℕ) (bits : List ℕ) (own set high low left high_with low_with : ℕ)
       → rest ≡ (x ∷ take (length rest - 1) (drop 1 rest)) → own ≡ bit_of bits x → own ≢ 0 → bit_and set own ≡ 0
-      → ((y : ℕ) → contains rest y ≡ true → IsApart bits y)
+      → ((y : ℕ) → contains rest y ≡ true → HasOwnBit bits y)
       → let xs = take (length rest - 1) (drop 1 rest) in
       SetsPass board t waste seats xs (box_in bits set) high low left
       → high_with ≡ high + high_of t x → low_with ≡ low + low_of t x

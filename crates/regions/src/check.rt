@@ -4,8 +4,8 @@ ghost use Rattle.grid.specs.Board.{is_goal};
 ghost use Rattle.grid.specs.Squares.{contains};
 ghost use Rattle.regions.specs.Regions.{IsRegion};
 ghost use Rattle.regions.specs.inside.Checks.{HasSteps, IsListedAt, SetPasses, SetsPass};
-ghost use Rattle.regions.specs.inside.Listing.{AreListed, IsApart, box_in};
-ghost use Rattle.regions.specs.inside.Tables.{entry_of, says, waste_in};
+ghost use Rattle.regions.specs.inside.Listing.{AreListed, HasOwnBit, box_in};
+ghost use Rattle.regions.specs.inside.Tables.{byte_for, says, waste_in};
 
 use crate::listing::{Look, Steps, are_apart, are_listed, bit_of, bits_of, has_box, steps_of};
 use crate::steps::{BoxSet, entries_pay, pushes_pay, walks_keep};
@@ -114,7 +114,7 @@ fn sets_pass(
     low: u32,
     left: usize,
 ) -> bool
-    requires apart { (x : ℕ) → contains rest.now x ≡ true → IsApart look.now.bits.now x }
+    requires apart { (x : ℕ) → contains rest.now x ≡ true → HasOwnBit look.now.bits.now x }
     requires listed { AreListed look.now.level.now look.now.table.now look.now.bits.now (waste_in look.now.wastes.now)
         look.now.seats.now.boxes steps.now }
     ensures { IsTrue result → SetsPass look.now.level.now look.now.table.now (waste_in look.now.wastes.now)
@@ -188,7 +188,7 @@ fn home_passes(look: &Look<'_>, set: u64, row: usize) -> bool
     requires { row ≤ 8589934590 }
     ensures { IsTrue result → ((q : ℕ) → contains look.now.seats.now.boxes q ≡ true →
         box_in look.now.bits.now set q ≡ is_goal look.now.level.now q) → (p : ℕ) →
-        p < length look.now.level.now.cells → entry_of look.now.table.now row p ≡ 0 }
+        p < length look.now.level.now.cells → byte_for look.now.table.now row p ≡ 0 }
 {
     if !is_home(look, look.seats.boxes(), set) {
         return true;
@@ -215,7 +215,7 @@ fn is_home(look: &Look<'_>, seats: &[Square], set: u64) -> bool
 // Whether the row says 0, wherever the player is.
 fn is_nothing(look: &Look<'_>, row: usize) -> bool
     requires { row ≤ 8589934590 }
-    ensures { IsTrue result → (p : ℕ) → p < length look.now.level.now.cells → entry_of look.now.table.now row p ≡ 0 }
+    ensures { IsTrue result → (p : ℕ) → p < length look.now.level.now.cells → byte_for look.now.table.now row p ≡ 0 }
 {
     look.level.tell();
     for index in 0..look.level.squares() {

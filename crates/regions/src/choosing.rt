@@ -13,7 +13,7 @@ const MOST_REGIONS: usize = 64;
 
 /// A choice of regions.
 #[derive(Drop)]
-pub(crate) struct Choice {
+pub(crate) struct RegionChoice {
     /// One for each goal.
     pub(crate) tolls: Vec<u32>,
     /// The waste of each push under these tolls: four for each square, in the order of directions.
@@ -30,14 +30,14 @@ pub(crate) fn choose(
     level: &Level,
     distances: &Distances,
     bytes: usize,
-) -> Result<Choice, AllocError> {
+) -> Result<RegionChoice, AllocError> {
     let tolls = tolls_of(alloc, level, distances)?;
     let wastes = wastes_of(alloc, level, distances, tolls.as_slice())?;
     let mut finder = Finder::new(alloc, level, wastes.as_slice(), level.boxes(), bytes)?;
     let windows = windows_of(alloc, level, &mut finder)?;
     let regions = affordable(alloc, &finder, windows)?;
     let owners = owners_of(alloc, level, regions.as_slice())?;
-    Ok(Choice {
+    Ok(RegionChoice {
         tolls,
         wastes,
         owners,
@@ -56,7 +56,7 @@ pub(crate) fn choose_for(
     distances: &Distances,
     bytes: usize,
     samples: &[Position],
-) -> Result<Choice, AllocError> {
+) -> Result<RegionChoice, AllocError> {
     let tolls = fitted(alloc, distances, samples)?;
     let wastes = wastes_of(alloc, level, distances, tolls.as_slice())?;
     let order = ranked(alloc, level, wastes.as_slice(), bytes / SMALL, samples)?;
@@ -64,7 +64,7 @@ pub(crate) fn choose_for(
     let windows = windows_round(alloc, level, &mut finder, order.as_slice())?;
     let regions = affordable(alloc, &finder, windows)?;
     let owners = owners_of(alloc, level, regions.as_slice())?;
-    Ok(Choice {
+    Ok(RegionChoice {
         tolls,
         wastes,
         owners,

@@ -1,7 +1,7 @@
 //! The table of a region, filled by pulls from the boxes on its goals: the least waste first. It has no contract: the
 //! table is checked.
 
-use crate::ground::{Ground, Pull, Site, ground_of, keys_of};
+use crate::layout::{Layout, Pull, Site, keys_of, layout_of};
 use crate::rows::{MOST_ENTRIES, Rows, is_small, rows_of};
 use crate::table::{ENDLESS, RegionTable, byte_at};
 use grid::{Level, Square};
@@ -24,7 +24,7 @@ struct QueuedSet {
 /// The entries that were found, and a queue: one list for each number of pushes, and one of unused entries.
 #[derive(Drop)]
 struct Filling {
-    ground: Ground,
+    layout: Layout,
     rows: Rows,
     boxes: u32,
     bytes: Vec<u8>,
@@ -45,24 +45,24 @@ pub(crate) fn fill(
         wastes,
         squares,
     };
-    let ground = ground_of(alloc, &site)?;
-    let seats = ground.seats.len();
-    if !is_small(seats, ground.spots.len(), level.boxes(), MOST_ENTRIES) {
+    let layout = layout_of(alloc, &site)?;
+    let seats = layout.seats.len();
+    if !is_small(seats, layout.spots.len(), level.boxes(), MOST_ENTRIES) {
         return Ok(None);
     }
-    let mut filling = begun(alloc, ground, level.boxes())?;
+    let mut filling = begun(alloc, layout, level.boxes())?;
     filling.begin(&site)?;
     filling.spread_all()?;
     Ok(Some(filling.table(alloc)?))
 }
 
 // Nothing is found yet.
-fn begun(alloc: Global, ground: Ground, boxes: usize) -> Result<Filling, AllocError> {
-    let row = u32::try_from(ground.spots.len()).unwrap_or(u32::MAX);
-    let rows = rows_of(alloc, ground.seats.len(), boxes, row)?;
+fn begun(alloc: Global, layout: Layout, boxes: usize) -> Result<Filling, AllocError> {
+    let row = u32::try_from(layout.spots.len()).unwrap_or(u32::MAX);
+    let rows = rows_of(alloc, layout.seats.len(), boxes, row)?;
     let bytes = vec![in alloc; ENDLESS; rows.entries]?;
     Ok(Filling {
-        ground,
+        layout,
         rows,
         boxes: u32::try_from(boxes).unwrap_or(u32::MAX),
         bytes,
@@ -78,12 +78,12 @@ impl Filling {
         let mut home = 0;
         for square in site.squares {
             if site.level.is_goal(*square) {
-                home |= self.ground.seat(*square);
+                home |= self.layout.seat(*square);
             }
         }
         let start = self.rows.start(home);
-        for place in 0..self.ground.spots.len() {
-            if self.ground.spot(place).seat & home == 0 {
+        for place in 0..self.layout.spots.len() {
+            if self.layout.spot(place).seat & home == 0 {
                 self.note(home, short(place), 0)?;
             } else {
                 self.set(start.saturating_add(place), 0);
@@ -173,7 +173,7 @@ impl Filling {
             left &= left.wrapping_sub(1);
         }
         if set.count_ones() < self.boxes {
-            let unseen = self.ground.seats.len();
+            let unseen = self.layout.seats.len();
             self.pull_from(unseen, set, area, pushes)?;
         }
         Ok(())
@@ -188,7 +188,7 @@ impl Filling {
             if fresh == 0 {
                 break;
             }
-            let spot = self.ground.spot(fresh.trailing_zeros() as usize);
+            let spot = self.layout.spot(fresh.trailing_zeros() as usize);
             let found = spot.beside & free & !area;
             area |= found;
             fresh = fresh & fresh.wrapping_sub(1) | found;
@@ -204,7 +204,7 @@ impl Filling {
             if left == 0 {
                 break;
             }
-            if let Some(place) = self.ground.seats.get(left.trailing_zeros() as usize) {
+            if let Some(place) = self.layout.seats.get(left.trailing_zeros() as usize) {
                 taken |= 1_u64 << (*place % 64);
             }
             left &= left.wrapping_sub(1);
@@ -234,7 +234,7 @@ impl Filling {
         pushes: u8,
     ) -> Result<(), AllocError> {
         for index in self.first(seat)..self.first(seat.saturating_add(1)) {
-            if let Some(pull) = self.ground.pulls.get(index) {
+            if let Some(pull) = self.layout.pulls.get(index) {
                 let pull = *pull;
                 self.pull(&pull, set, area, pushes)?;
             }
@@ -245,9 +245,9 @@ impl Filling {
     // The index of the first pull of a seat.
     #[inline(always)]
     fn first(&self, seat: usize) -> usize {
-        match self.ground.firsts.get(seat) {
+        match self.layout.firsts.get(seat) {
             Some(first) => *first,
-            None => self.ground.pulls.len(),
+            None => self.layout.pulls.len(),
         }
     }
 
@@ -264,15 +264,15 @@ impl Filling {
     // The table, of what was found.
     fn table(self, alloc: Global) -> Result<RegionTable, AllocError> {
         let Filling {
-            ground,
+            layout,
             rows,
             bytes,
             ..
         } = self;
-        let keys = keys_of(alloc, &ground, rows.half)?;
+        let keys = keys_of(alloc, &layout, rows.half)?;
         Ok(RegionTable {
-            places: ground.places,
-            squares: ground.listed,
+            places: layout.places,
+            squares: layout.listed,
             keys,
             high_rows: rows.high,
             low_rows: rows.low,

@@ -5,11 +5,11 @@ ghost use Rattle.std.specs.Int.RustNames.{bit_and};
 ghost use Rattle.grid.specs.declared.dir.Dir.{Dir};
 ghost use Rattle.grid.specs.Squares.{contains};
 ghost use Rattle.regions.specs.Regions.{endless};
-ghost use Rattle.regions.specs.inside.Listing.{AreListed, EntryListed, HasPush, HasWalk, IsApart, PushListed};
+ghost use Rattle.regions.specs.inside.Listing.{AreListed, EntryListed, HasPush, HasWalk, HasOwnBit, PushListed};
 ghost use Rattle.regions.specs.inside.Listing.{SeatListed, WalkListed, WalksListed, bit_of, box_in, push_in, walk_in};
 ghost use Rattle.regions.specs.inside.Tables.{waste_in};
 
-use crate::table::{ENDLESS, Key, RegionTable, waste_at};
+use crate::table::{BoxKey, ENDLESS, RegionTable, waste_at};
 use crate::wastes::beside;
 use grid::{Dir, Level, Position, Square};
 use std::alloc::{AllocError, Global};
@@ -32,8 +32,8 @@ pub(crate) struct PushStep {
     pub(crate) waste: u8,
     pub(crate) free: u64,
     pub(crate) seat: u64,
-    pub(crate) left: Key,
-    pub(crate) entered: Key,
+    pub(crate) left: BoxKey,
+    pub(crate) entered: BoxKey,
 }
 
 /// What is looked at: a table of a level, the waste of pushes that it counts, the squares where a box is seen, and the
@@ -362,7 +362,7 @@ fn has_push(pushes: &[PushStep], wanted: &PushStep) -> bool
 
 /// Whether no square has a bit of one of these seats, except the seat.
 pub(crate) fn are_apart(bits: &[u64], seats: &[Square]) -> bool
-    ensures { IsTrue result → (x : ℕ) → contains seats.now x ≡ true → IsApart bits.now x }
+    ensures { IsTrue result → (x : ℕ) → contains seats.now x ≡ true → HasOwnBit bits.now x }
 {
     let [first, rest @ ..] = seats else {
         return true;
@@ -375,7 +375,7 @@ pub(crate) fn are_apart(bits: &[u64], seats: &[Square]) -> bool
 
 // Whether no other square has a bit of the seat.
 fn is_apart(bits: &[u64], seat: Square) -> bool
-    ensures { IsTrue result → IsApart bits.now seat }
+    ensures { IsTrue result → HasOwnBit bits.now seat }
 {
     for index in 0..bits.len() {
         if !are_disjoint(bits, seat, index) {

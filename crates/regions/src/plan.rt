@@ -3,7 +3,7 @@ ghost use Rattle.regions.specs.Regions.{IsRegion};
 ghost use Rattle.regions.specs.inside.Tables.{said, waste_in};
 
 use crate::check::passes;
-use crate::choosing::Choice;
+use crate::choosing::RegionChoice;
 use crate::filling::fill;
 use crate::table::{ENDLESS, RegionTable, byte_at, waste_at};
 use grid::{Dir, Level, Position, Square};
@@ -118,8 +118,12 @@ fn checked(
 }
 
 /// The plan of a choice of regions.
-pub(crate) fn plan_of(alloc: Global, level: &Level, choice: Choice) -> Result<Plan, AllocError> {
-    let Choice {
+pub(crate) fn plan_of(
+    alloc: Global,
+    level: &Level,
+    choice: RegionChoice,
+) -> Result<Plan, AllocError> {
+    let RegionChoice {
         tolls,
         wastes,
         owners,

@@ -2,7 +2,7 @@
 ghost use Rattle.std.specs.Prelude.{◌≡◌, ◌≤◌, ◌+◌, ◌*◌, length, slice_index_or};
 ghost use Rattle.grid.specs.Board.{dir_number};
 ghost use Rattle.prices.specs.Prices.{sum_over};
-ghost use Rattle.regions.specs.inside.Tables.{byte_in, entry_of, high_of, is_seat, key_of, low_of, place_of, row_of};
+ghost use Rattle.regions.specs.inside.Tables.{byte_in, byte_for, high_of, is_seat, key_of, low_of, place_of, row_of};
 ghost use Rattle.regions.specs.inside.Tables.{says, waste_in};
 
 use grid::{Dir, MAX_BOXES, Position, Square};
@@ -13,7 +13,7 @@ pub(crate) const ENDLESS: u8 = u8::MAX;
 
 /// What a box on a square adds to the two numbers of a set of boxes.
 #[derive(Clone, Copy, Default, PartialEq, Eq, Debug)]
-pub(crate) struct Key {
+pub(crate) struct BoxKey {
     pub(crate) high: u32,
     pub(crate) low: u32,
 }
@@ -30,7 +30,7 @@ pub(crate) struct RegionTable {
     /// The squares with a place other than 0.
     pub(crate) squares: Vec<Square>,
     /// The key of each square of the level: both numbers are 0 where a box isn't seen.
-    pub(crate) keys: Vec<Key>,
+    pub(crate) keys: Vec<BoxKey>,
     pub(crate) high_rows: Vec<u32>,
     pub(crate) low_rows: Vec<u32>,
     pub(crate) bytes: Vec<u8>,
@@ -39,12 +39,12 @@ pub(crate) struct RegionTable {
 impl RegionTable {
     /// The key of a square.
     #[inline(always)]
-    pub(crate) fn key(&self, square: Square) -> Key
+    pub(crate) fn key(&self, square: Square) -> BoxKey
         ensures { result ≡ key_of self.now square }
     {
         match self.keys.get(square.0 as usize) {
             Some(key) => *key,
-            None => Key { high: 0, low: 0 },
+            None => BoxKey { high: 0, low: 0 },
         }
     }
 
@@ -80,7 +80,7 @@ impl RegionTable {
     #[inline(always)]
     pub(crate) fn entry(&self, row: usize, player: Square) -> u8
         requires { row ≤ 8589934590 }
-        ensures { result ≡ entry_of self.now row player }
+        ensures { result ≡ byte_for self.now row player }
     {
         self.byte(row, self.place(player))
     }

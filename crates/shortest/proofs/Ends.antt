@@ -21,7 +21,7 @@ use Rattle.lurd.proofs.lemmas.Solutions.{moves_of_play, solved_of_play}
 use Rattle.prices.specs.Solving.{SolvableWithin}
 use Rattle.prover.specs.Parity.{SomeHas}
 use Rattle.prover.proofs.lemmas.Pruning.{pushed_from, pushed_push}
-use Rattle.store.specs.Visited.{Entry}
+use Rattle.store.specs.Visited.{Node}
 use Rattle.successors.specs.Expansion.{after_push}
 use Rattle.successors.specs.LeastPlays.{ArePlayed, WritesLeastPlay}
 use Rattle.shortest.specs.Shortest.{NoneIsBetter}
@@ -67,7 +67,7 @@ pub reading_begun : (v : StatesView) (rests : List (Option ℕ)) → AreAllExpan
     (total : ℕ) × (slice_get rests 0 ≡ Some (Some total)) × IsReading v.board v.entries rests total 0 []
 reading_begun v rests are some is = by (in_range rests 0 (let lt = slice_get_within v.entries 0 x at_x in let many = is.many in omega (arith, lt, many)))
   where
-    x : Entry
+    x : Node
     x = are.listed.begun.0
 
     at_x : slice_get v.entries 0 ≡ Some x
@@ -220,7 +220,7 @@ best_solution v rests total ps t moves are is first_is long (ds, u, play, solved
   ]),
 )
   where
-    x : Entry
+    x : Node
     x = are.listed.begun.0
 
     none : x.pushes ≡ 0

@@ -22,7 +22,7 @@ use Rattle.prices.proofs.lemmas.Solving.{none_is_not_solvable}
 use Rattle.prover.specs.Frontier.{IsFoundWithin}
 use Rattle.prover.proofs.lemmas.Pruning.{after_scene, pushed_from, pushed_push}
 use Rattle.store.specs.FoundView.{FitsGrid}
-use Rattle.store.specs.Visited.{Entry, HasEntered, entry_of}
+use Rattle.store.specs.Visited.{Node, HasEntered, entry_of}
 use Rattle.store.specs.declared.visited.Label.{Label}
 use Rattle.store.proofs.lemmas.Fitting.{level_fits}
 use Rattle.successors.specs.Distances.{AreDistinct}
@@ -43,30 +43,30 @@ in_range (x ∷ xs) (suc i) lt = in_range xs i (omega (arith, lt))
 pub read_push : (xs ys : List Push) (i : ℕ) (p : Push) → xs ≡ ys → i < length xs → p ≡ get_or xs i p → slice_get ys i ≡ Some p
 read_push xs ys i p same lt is = subst (λ (zs : List Push). slice_get zs i ≡ Some p) same (slice_get_read xs (length xs) i p refl lt is)
 
-found_front : (old : List Entry) (e : Entry) (k : ℕ) (s : Scene) → IsFoundWithin old k s → IsFoundWithin (old ++ e ∷ []) k s
+found_front : (old : List Node) (e : Node) (k : ℕ) (s : Scene) → IsFoundWithin old k s → IsFoundWithin (old ++ e ∷ []) k s
 found_front old e k s (i, x, at_i, same, le) = (i, x, at_before old (e ∷ []) i x at_i, same, le)
 
 -- ---- one more state
 
 -- entering an entry lists it, where none has more pushes
-pub lists_by : (old new : List Entry) (e : Entry) (place : Option ℕ) → ((i : ℕ) (x : Entry) → slice_get old i ≡ Some x → x.pushes ≤ e.pushes) →
+pub lists_by : (old new : List Node) (e : Node) (place : Option ℕ) → ((i : ℕ) (x : Node) → slice_get old i ≡ Some x → x.pushes ≤ e.pushes) →
     HasEntered old new e place → Lists old new e
 lists_by old new e (Some i) most (inl (end, is, fresh)) = inr is
 lists_by old new e (Some i) most (inr (x, at_i, same, lt, is)) = absurd (let le = most i x at_i in omega (arith, lt, le))
 lists_by old new e None most (is, (i, x, at_i, same, le)) = inl (is, (i, x, at_i, same, le))
 
 -- the list of the start alone
-pub first_listed : (board : Board) (most : ℕ) (old new : List Entry) (e : Entry) (place : Option ℕ) → old ≡ [] → FitsLevel board e.position →
+pub first_listed : (board : Board) (most : ℕ) (old new : List Node) (e : Node) (place : Option ℕ) → old ≡ [] → FitsLevel board e.position →
     e.position ≡ start board → e.pushes ≡ 0 → HasEntered old new e place → AreStatesListed board most 0 new
 first_listed board most old new e place none fits first zero_ entered = by (lists_by [] new e place (λ i x at_i. absurd (none-some x at_i))
-    (subst (λ (xs : List Entry). HasEntered xs new e place) none entered))
+    (subst (λ (xs : List Node). HasEntered xs new e place) none entered))
   where
-    only : (i : ℕ) (x : Entry) → slice_get (e ∷ []) i ≡ Some x → x ≡ e
+    only : (i : ℕ) (x : Node) → slice_get (e ∷ []) i ≡ Some x → x ≡ e
     only zero x at_i = sym (same_Some e x at_i)
     only (suc i) x at_i = absurd (none-some x at_i)
 
-    count : (i : ℕ) (x : Entry) → slice_get (e ∷ []) i ≡ Some x → x.pushes ≡ 0
-    count i x at_i = ap (λ (y : Entry). y.pushes) (only i x at_i) ∙ zero_
+    count : (i : ℕ) (x : Node) → slice_get (e ∷ []) i ≡ Some x → x.pushes ≡ 0
+    count i x at_i = ap (λ (y : Node). y.pushes) (only i x at_i) ∙ zero_
 
     alone : AreStatesListed board most 0 (e ∷ [])
     alone = record {
@@ -99,20 +99,20 @@ reached_after board k s p scene can (ds, ps, play, many) =
       omega (arith, long, many),
     )
 
-module _ (board : Board) (most place : ℕ) (old : List Entry) (k : ℕ) (s : Scene) (p : Push) (listed : AreStatesListed board most place old)
+module _ (board : Board) (most place : ℕ) (old : List Node) (k : ℕ) (s : Scene) (p : Push) (listed : AreStatesListed board most place old)
     (at_place : IsEntryAt old place s k) (fewer : k < most) (can : CanPush board s p) where
   same : at_place.0.position ≡ s
   same = at_place.2
 
   -- no entry has more pushes than the new one
-  pub most_so_far : (j : ℕ) (y : Entry) → slice_get old j ≡ Some y → y.pushes ≤ suc k
+  pub most_so_far : (j : ℕ) (y : Node) → slice_get old j ≡ Some y → y.pushes ≤ suc k
   most_so_far j y at_j = let le = listed.near place j at_place.0 y (omega arith) at_place.1 at_j in let c = at_place.3 in omega (arith, le, c)
 
   scene : IsScene board s
   scene = subst (IsScene board) same (listed.each place at_place.0 at_place.1).fits.scene
 
   -- the state after a push comes last
-  one_more : (e : Entry) → e.position ≡ after_push board s p → e.pushes ≡ suc k → FitsLevel board e.position → AreStatesListed board most place (old ++ e ∷ [])
+  one_more : (e : Node) → e.position ≡ after_push board s p → e.pushes ≡ suc k → FitsLevel board e.position → AreStatesListed board most place (old ++ e ∷ [])
   one_more e there count fits = record {
     begun = (let (y, at_y, first, zero_) = listed.begun in (y, at_before old (e ∷ []) 0 y at_y, first, zero_));
     each = λ i y at_i. elim (at-push old e i y at_i) [
@@ -135,34 +135,34 @@ module _ (board : Board) (most place : ℕ) (old : List Entry) (k : ℕ) (s : Sc
     ];
   }
     where
-      sorted_on : (i j : ℕ) (y z : Entry) → i ≤ j → (slice_get old i ≡ Some y) ⊎ ((i ≡ length old) × (y ≡ e)) →
+      sorted_on : (i j : ℕ) (y z : Node) → i ≤ j → (slice_get old i ≡ Some y) ⊎ ((i ≡ length old) × (y ≡ e)) →
           (slice_get old j ≡ Some z) ⊎ ((j ≡ length old) × (z ≡ e)) → y.pushes ≤ z.pushes
       sorted_on i j y z le (inl one) (inl two) = listed.sorted i j y z le one two
       sorted_on i j y z le (inl one) (inr (end, is)) =
-          let few = most_so_far i y one in let c = ap (λ (w : Entry). w.pushes) is in omega (arith, few, c, count)
+          let few = most_so_far i y one in let c = ap (λ (w : Node). w.pushes) is in omega (arith, few, c, count)
       sorted_on i j y z le (inr (end, is)) (inl two) = absurd (let lt = slice_get_within old j z two in omega (arith, le, end, lt))
       sorted_on i j y z le (inr (end, is)) (inr (last, so)) =
-          let c = ap (λ (w : Entry). w.pushes) is in let d = ap (λ (w : Entry). w.pushes) so in omega (arith, c, d)
+          let c = ap (λ (w : Node). w.pushes) is in let d = ap (λ (w : Node). w.pushes) so in omega (arith, c, d)
 
-      near_on : (i j : ℕ) (y z : Entry) → place ≤ i → (slice_get old i ≡ Some y) ⊎ ((i ≡ length old) × (y ≡ e)) →
+      near_on : (i j : ℕ) (y z : Node) → place ≤ i → (slice_get old i ≡ Some y) ⊎ ((i ≡ length old) × (y ≡ e)) →
           (slice_get old j ≡ Some z) ⊎ ((j ≡ length old) × (z ≡ e)) → z.pushes ≤ suc y.pushes
       near_on i j y z le (inl one) (inl two) = listed.near i j y z le one two
       near_on i j y z le (inl one) (inr (end, is)) =
           let few = listed.sorted place i at_place.0 y le at_place.1 one in
-          let c = ap (λ (w : Entry). w.pushes) is in
+          let c = ap (λ (w : Node). w.pushes) is in
           let d = at_place.3 in
           omega (arith, few, c, count, d)
       near_on i j y z le (inr (end, is)) (inl two) =
-          let few = most_so_far j z two in let c = ap (λ (w : Entry). w.pushes) is in omega (arith, few, c, count)
+          let few = most_so_far j z two in let c = ap (λ (w : Node). w.pushes) is in omega (arith, few, c, count)
       near_on i j y z le (inr (end, is)) (inr (last, so)) =
-          let c = ap (λ (w : Entry). w.pushes) is in let d = ap (λ (w : Entry). w.pushes) so in omega (arith, c, d)
+          let c = ap (λ (w : Node). w.pushes) is in let d = ap (λ (w : Node). w.pushes) so in omega (arith, c, d)
 
   -- a longer list
-  longer_on : (new : List Entry) (e : Entry) (pushes : List Push) (i : ℕ) → e.position ≡ after_push board s p → e.pushes ≡ suc k → FitsLevel board e.position →
+  longer_on : (new : List Node) (e : Node) (pushes : List Push) (i : ℕ) → e.position ≡ after_push board s p → e.pushes ≡ suc k → FitsLevel board e.position →
       slice_get pushes i ≡ Some p → new ≡ old ++ e ∷ [] → ArePushesKept board most old k s pushes i →
       AreStatesListed board most place new × IsEntryAt new place s k × ArePushesKept board most new k s pushes (i + 1)
   longer_on new e pushes i there count fits at_i longer kept =
-      subst (λ (all : List Entry). AreStatesListed board most place all × IsEntryAt all place s k × ArePushesKept board most all k s pushes (i + 1)) (sym longer) (
+      subst (λ (all : List Node). AreStatesListed board most place all × IsEntryAt all place s k × ArePushesKept board most all k s pushes (i + 1)) (sym longer) (
         one_more e there count fits,
         (at_place.0, at_before old (e ∷ []) place at_place.0 at_place.1, at_place.2, at_place.3),
         λ j q lt at_j. elim (cases_eq j i) [
@@ -173,11 +173,11 @@ module _ (board : Board) (most place : ℕ) (old : List Entry) (k : ℕ) (s : Sc
       )
 
   -- after one more push of the state at the place
-  pub pushed_on : (new : List Entry) (left n : ℕ) (after : Option Scene) (pushes : List Push) (i : ℕ) → k + suc left ≡ most → n ≡ suc k →
+  pub pushed_on : (new : List Node) (left n : ℕ) (after : Option Scene) (pushes : List Push) (i : ℕ) → k + suc left ≡ most → n ≡ suc k →
       slice_get pushes i ≡ Some p → IsAfter board left s p after → ListsIf old new n after → ArePushesKept board most old k s pushes i →
       AreStatesListed board most place new × IsEntryAt new place s k × ArePushesKept board most new k s pushes (i + 1)
   pushed_on new left n None pushes i sum count at_i after lists kept =
-      subst (λ (all : List Entry). AreStatesListed board most place all × IsEntryAt all place s k × ArePushesKept board most all k s pushes (i + 1)) (sym lists) (
+      subst (λ (all : List Node). AreStatesListed board most place all × IsEntryAt all place s k × ArePushesKept board most all k s pushes (i + 1)) (sym lists) (
         listed,
         at_place,
         λ j q lt at_j. elim (cases_eq j i) [
@@ -188,7 +188,7 @@ module _ (board : Board) (most place : ℕ) (old : List Entry) (k : ℕ) (s : Sc
         ],
       )
   pushed_on new left n (Some t) pushes i sum count at_i (there, fits) (inl (unchanged, found)) kept =
-      subst (λ (all : List Entry). AreStatesListed board most place all × IsEntryAt all place s k × ArePushesKept board most all k s pushes (i + 1)) (sym unchanged) (
+      subst (λ (all : List Node). AreStatesListed board most place all × IsEntryAt all place s k × ArePushesKept board most all k s pushes (i + 1)) (sym unchanged) (
         listed,
         at_place,
         λ j q lt at_j. elim (cases_eq j i) [
@@ -203,7 +203,7 @@ module _ (board : Board) (most place : ℕ) (old : List Entry) (k : ℕ) (s : Sc
 -- ---- a state is expanded
 
 -- all its pushes are kept
-pub expanded_on : (board : Board) (most place : ℕ) (all : List Entry) (k : ℕ) (s : Scene) (pushes : List Push) (count : ℕ) → ArePushes board s pushes →
+pub expanded_on : (board : Board) (most place : ℕ) (all : List Node) (k : ℕ) (s : Scene) (pushes : List Push) (count : ℕ) → ArePushes board s pushes →
     length pushes ≤ count → AreStatesListed board most place all → IsEntryAt all place s k → ArePushesKept board most all k s pushes count →
     AreStatesListed board most (suc place) all
 expanded_on board most place all k s pushes count are over listed (x, at_x, same, many) kept = record {
@@ -226,7 +226,7 @@ expanded_on board most place all k s pushes count are over listed (x, at_x, same
         (subst (λ (n : ℕ). IsListedOrLost board most all n s p) (sym many) (kept_here p (subst (λ (t : Scene). CanPush board t p) same can)))
 
 -- it has as many pushes as the solutions
-pub expanded_last : (board : Board) (most place : ℕ) (all : List Entry) (k : ℕ) (s : Scene) → most ≤ k → AreStatesListed board most place all →
+pub expanded_last : (board : Board) (most place : ℕ) (all : List Node) (k : ℕ) (s : Scene) → most ≤ k → AreStatesListed board most place all →
     IsEntryAt all place s k → AreStatesListed board most (suc place) all
 expanded_last board most place all k s enough listed (x, at_x, same, many) = record {
   begun = listed.begun;
@@ -234,14 +234,14 @@ expanded_last board most place all k s enough listed (x, at_x, same, many) = rec
   sorted = listed.sorted;
   near = λ i j y z le. listed.near i j y z (omega (arith, le));
   expanded = λ i y lt at_i. elim (cases_eq i place) [
-    | inl e ↦ (let c = ap (λ (w : Entry). w.pushes) (same_Some x y (sym at_x ∙ (ap (λ (h : ℕ). slice_get all h) (sym e) ∙ at_i))) in
+    | inl e ↦ (let c = ap (λ (w : Node). w.pushes) (same_Some x y (sym at_x ∙ (ap (λ (h : ℕ). slice_get all h) (sym e) ∙ at_i))) in
         λ p can m sum solvable. absurd (omega (arith, sum, c, many, enough)))
     | inr ne ↦ listed.expanded i y (omega (arith, lt, ne)) at_i
   ];
 }
 
 -- all are expanded
-pub all_expanded : (board : Board) (most place : ℕ) (all : List Entry) → length all ≤ place → AreStatesListed board most place all →
+pub all_expanded : (board : Board) (most place : ℕ) (all : List Node) → length all ≤ place → AreStatesListed board most place all →
     AreStatesListed board most (length all) all
 all_expanded board most place all over listed = record {
   begun = listed.begun;
@@ -252,16 +252,16 @@ all_expanded board most place all over listed = record {
 }
 
 -- more states are listed than the limit
-pub has_more_states : (board : Board) (most limit done : ℕ) (all : List Entry) → AreStatesListed board most done all →
-    AreDistinct (map (λ (x : Entry). x.position) all) → limit < length all → HasMoreStates board most limit
+pub has_more_states : (board : Board) (most limit done : ℕ) (all : List Node) → AreStatesListed board most done all →
+    AreDistinct (map (λ (x : Node). x.position) all) → limit < length all → HasMoreStates board most limit
 has_more_states board most limit done all listed distinct more = record {
-  states = map (λ (x : Entry). x.position) all;
-  many = (let e = length-map all (λ (x : Entry). x.position) in omega (arith, e, more));
+  states = map (λ (x : Node). x.position) all;
+  many = (let e = length-map all (λ (x : Node). x.position) in omega (arith, e, more));
   different = distinct;
-  reached = λ i s at_i. by i (slice_get all i) refl s (sym (slice_get-map (λ (x : Entry). x.position) all i) ∙ at_i);
+  reached = λ i s at_i. by i (slice_get all i) refl s (sym (slice_get-map (λ (x : Node). x.position) all i) ∙ at_i);
 }
   where
-    by : (i : ℕ) (o : Option Entry) → slice_get all i ≡ o → (s : Scene) → option_map (λ (x : Entry). x.position) o ≡ Some s →
+    by : (i : ℕ) (o : Option Node) → slice_get all i ≡ o → (s : Scene) → option_map (λ (x : Node). x.position) o ≡ Some s →
         (k : ℕ) × (k ≤ most) × IsReachedBy board k s
     by i None is s there = absurd (none-some s there)
     by i (Some x) is s there = (
@@ -304,7 +304,7 @@ exact_fits board s n p scene can norm fits = record {
 
 -- ---- what calls ask for
 
-pub fits_at : (board : Board) (most done place k : ℕ) (all : List Entry) (s : Scene) → AreStatesListed board most done all → IsEntryAt all place s k →
+pub fits_at : (board : Board) (most done place k : ℕ) (all : List Node) (s : Scene) → AreStatesListed board most done all → IsEntryAt all place s k →
     FitsLevel board s
 fits_at board most done place k all s listed (x, at_x, same, count) = subst (FitsLevel board) same (listed.each place x at_x).fits
 
@@ -315,14 +315,14 @@ after_fits board left boxes squares s p None boxes_are squares_are is = tt
 after_fits board left boxes squares s p (Some t) boxes_are squares_are (same, fits) = level_fits board boxes squares t boxes_are squares_are fits
 
 -- a state, or none, is listed
-pub lists_some : (old new : List Entry) (s : Scene) (pushes : ℕ) (label : Label) (place : Option ℕ) →
-    ((i : ℕ) (x : Entry) → slice_get old i ≡ Some x → x.pushes ≤ pushes) → label ≡ record { pushes = pushes; least = None; parent = None } →
+pub lists_some : (old new : List Node) (s : Scene) (pushes : ℕ) (label : Label) (place : Option ℕ) →
+    ((i : ℕ) (x : Node) → slice_get old i ≡ Some x → x.pushes ≤ pushes) → label ≡ record { pushes = pushes; least = None; parent = None } →
     HasEntered old new (entry_of (s, label)) place → ListsIf old new pushes (Some s)
 lists_some old new s pushes label place most is entered = lists_by old new (record { position = s; pushes = pushes; least = None; parent = None }) place most
     (subst (λ (l : Label). HasEntered old new (entry_of (s, l)) place) is entered)
 
 -- the start is listed
-pub start_listed : (board : Board) (most : ℕ) (old new : List Entry) (s : Scene) (label : Label) (place : Option ℕ) → old ≡ [] → s ≡ start board →
+pub start_listed : (board : Board) (most : ℕ) (old new : List Node) (s : Scene) (label : Label) (place : Option ℕ) → old ≡ [] → s ≡ start board →
     FitsLevel board (start board) → label ≡ record { pushes = 0; least = None; parent = None } → HasEntered old new (entry_of (s, label)) place →
     AreStatesListed board most 0 new
 start_listed board most old new s label place none first fits is entered =

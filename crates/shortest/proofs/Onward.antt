@@ -21,7 +21,7 @@ use Rattle.prices.proofs.lemmas.Solving.{push_possible, solved_before}
 use Rattle.prover.specs.Fewest.{NoneHasFewer}
 use Rattle.prover.proofs.lemmas.Pruning.{moved, pushed_from, pushed_push}
 use Rattle.store.specs.Places.{IsPlaceOf}
-use Rattle.store.specs.Visited.{Entry, IsNew}
+use Rattle.store.specs.Visited.{Node, IsNew}
 use Rattle.successors.specs.Expansion.{after_push}
 use Rattle.successors.proofs.lemmas.Lists.{set_here, set_there}
 use Rattle.shortest.specs.Shortest.{IsReachedBy}
@@ -42,13 +42,13 @@ one_layer board most k m t fewest (ds, ps, play, many) (es, qs, u, more, solved,
 
 -- ---- the state after a push
 
-distinct_places : (all : List Entry) (i j : ℕ) (x y : Entry) → ((i j : ℕ) (m : Scene) → slice_get (map (λ (e : Entry). e.position) all) i ≡ Some m →
-    slice_get (map (λ (e : Entry). e.position) all) j ≡ Some m → i ≡ j) → slice_get all i ≡ Some x → slice_get all j ≡ Some y → x.position ≡ y.position → x ≡ y
+distinct_places : (all : List Node) (i j : ℕ) (x y : Node) → ((i j : ℕ) (m : Scene) → slice_get (map (λ (e : Node). e.position) all) i ≡ Some m →
+    slice_get (map (λ (e : Node). e.position) all) j ≡ Some m → i ≡ j) → slice_get all i ≡ Some x → slice_get all j ≡ Some y → x.position ≡ y.position → x ≡ y
 distinct_places all i j x y distinct at_i at_j same =
-    let one : slice_get (map (λ (e : Entry). e.position) all) i ≡ Some y.position =
-    slice_get-map (λ (e : Entry). e.position) all i ∙ (ap (option_map (λ (e : Entry). e.position)) at_i ∙ ap Some same) in
-    let two : slice_get (map (λ (e : Entry). e.position) all) j ≡ Some y.position =
-    slice_get-map (λ (e : Entry). e.position) all j ∙ ap (option_map (λ (e : Entry). e.position)) at_j in
+    let one : slice_get (map (λ (e : Node). e.position) all) i ≡ Some y.position =
+    slice_get-map (λ (e : Node). e.position) all i ∙ (ap (option_map (λ (e : Node). e.position)) at_i ∙ ap Some same) in
+    let two : slice_get (map (λ (e : Node). e.position) all) j ≡ Some y.position =
+    slice_get-map (λ (e : Node). e.position) all j ∙ ap (option_map (λ (e : Node). e.position)) at_j in
     let e = distinct i j y.position one two in
     same_Some x y (sym at_i ∙ (ap (λ (h : ℕ). slice_get all h) e ∙ at_j))
 
@@ -78,7 +78,7 @@ module _ (v : StatesView) (rests : List (Option ℕ)) (k : ℕ) (s : Scene) (are
       omega (arith, le, lt)
 
   -- a state with one push more is behind it
-  pub behind : (i : ℕ) (y : Entry) → slice_get v.entries i ≡ Some y → y.pushes ≡ suc k → suc onward.place ≤ i
+  pub behind : (i : ℕ) (y : Node) → slice_get v.entries i ≡ Some y → y.pushes ≡ suc k → suc onward.place ≤ i
   behind i y at_i count = elim (cases_lt onward.place i) [
     | inl lt ↦ omega (arith, lt)
     | inr ge ↦ absurd (let le = are.listed.sorted i onward.place y onward.at_place.0 ge at_i onward.at_place.1 in
@@ -98,18 +98,18 @@ module _ (v : StatesView) (rests : List (Option ℕ)) (k : ℕ) (s : Scene) (are
   not_listed p m can fresh sum solvable = let (i, y, at_i, there, le) = kept p can m sum solvable in fresh i y at_i there
 
   -- it is listed with another number of pushes
-  pub other_layer : (p : Push) (m place : ℕ) (y : Entry) → CanPush v.board s p → slice_get v.entries place ≡ Some y → y.position ≡ after_push v.board s p →
+  pub other_layer : (p : Push) (m place : ℕ) (y : Node) → CanPush v.board s p → slice_get v.entries place ≡ Some y → y.position ≡ after_push v.board s p →
       y.pushes ≢ suc k → k + suc m ≡ v.most → ¬ (SolvableWithin v.board m (after_push v.board s p))
   other_layer p m place y can at_y there other sum solvable =
       let (i, z, at_z, so, le) = kept p can m sum solvable in
       let one : z ≡ y = distinct_places v.entries i place z y are.distinct at_z at_y (so ∙ sym there) in
-      let c = ap (λ (w : Entry). w.pushes) one in
+      let c = ap (λ (w : Node). w.pushes) one in
       let ge = one_layer v.board v.most y.pushes m y.position are.fewest (are.listed.each place y at_y).reached
       (subst (SolvableWithin v.board m) (sym there) solvable) in
       other (omega (arith, c, le, ge, sum))
 
   -- no play goes on from it
-  pub no_rest : (p : Push) (m place : ℕ) (y : Entry) → slice_get v.entries place ≡ Some y → y.position ≡ after_push v.board s p →
+  pub no_rest : (p : Push) (m place : ℕ) (y : Node) → slice_get v.entries place ≡ Some y → y.position ≡ after_push v.board s p →
       y.pushes ≡ suc k → slice_get rests place ≡ Some None → k + suc m ≡ v.most → ¬ (SolvableWithin v.board m (after_push v.board s p))
   no_rest p m place y at_y there count none sum (ds, ps, t, play, solved, few) =
       (onward.known.each place m y None (behind place y at_y count) at_y none (omega (arith, count, sum))).is.least ds ps t
@@ -284,12 +284,12 @@ rest_unsolved board s unsolved = record {
     none ds (p ∷ ps) t play end few = omega (arith, few)
 
 -- the state at a place is one
-pub one_at : (all : List Entry) (place k n : ℕ) (s t : Scene) → IsEntryAt all place s k → IsEntryAt all place t n → (s ≡ t) × (k ≡ n)
+pub one_at : (all : List Node) (place k n : ℕ) (s t : Scene) → IsEntryAt all place s k → IsEntryAt all place t n → (s ≡ t) × (k ≡ n)
 one_at all place k n s t (x, at_x, same, count) (y, at_y, so, many) =
     let e = same_Some x y (sym at_x ∙ at_y) in
-    (sym same ∙ (ap (λ (w : Entry). w.position) e ∙ so), sym count ∙ (ap (λ (w : Entry). w.pushes) e ∙ many))
+    (sym same ∙ (ap (λ (w : Node). w.position) e ∙ so), sym count ∙ (ap (λ (w : Node). w.pushes) e ∙ many))
 
-pub rest_same : (board : Board) (all : List Entry) (most place k n : ℕ) (s t : Scene) (rest : Option ℕ) → IsEntryAt all place s k → IsEntryAt all place t n →
+pub rest_same : (board : Board) (all : List Node) (most place k n : ℕ) (s t : Scene) (rest : Option ℕ) → IsEntryAt all place s k → IsEntryAt all place t n →
     ((m : ℕ) → k + m ≡ most → IsRestOf board m s rest) → (m : ℕ) → n + m ≡ most → IsRestOf board m t rest
 rest_same board all most place k n s t rest here there is m sum =
     let (e, f) = one_at all place k n s t here there in
@@ -298,7 +298,7 @@ rest_same board all most place k n s t rest here there is m sum =
 -- ---- the numbers are written
 
 -- one more place is written
-pub rests_more : (board : Board) (most place : ℕ) (all : List Entry) (old : List (Option ℕ)) (rest : Option ℕ) → place < length all →
+pub rests_more : (board : Board) (most place : ℕ) (all : List Node) (old : List (Option ℕ)) (rest : Option ℕ) → place < length all →
     AreRests board most (suc place) all old → ((k m : ℕ) (s : Scene) → IsEntryAt all place s k → k + m ≡ most → IsRestOf board m s rest) →
     AreRests board most place all (set old place rest)
 rests_more board most place all old rest lt rests is = record {
@@ -313,7 +313,7 @@ rests_more board most place all old rest lt rests is = record {
 }
 
 -- none is written yet
-pub rests_none : (board : Board) (most place : ℕ) (all : List Entry) (rests : List (Option ℕ)) → length rests ≡ length all → length all ≤ place →
+pub rests_none : (board : Board) (most place : ℕ) (all : List Node) (rests : List (Option ℕ)) → length rests ≡ length all → length all ≤ place →
     AreRests board most place all rests
 rests_none board most place all rests many over = record {
   many = many;
@@ -341,8 +341,8 @@ pushed_is board level s a t p to level_is copied to_is is =
     is ∙ (λ i. record { boxes = insert (remove (copied i).boxes p.square) ((to_is ∙ ap (λ (b : Board). next b p.square p.dir) level_is) i); player = p.square })
 
 -- a place that a look-up gives
-pub place_within : (all : List Entry) (s t : Scene) (place : ℕ) → s ≡ t → IsPlaceOf all s (Some place) →
-    (y : Entry) × (slice_get all place ≡ Some y) × (y.position ≡ t)
+pub place_within : (all : List Node) (s t : Scene) (place : ℕ) → s ≡ t → IsPlaceOf all s (Some place) →
+    (y : Node) × (slice_get all place ≡ Some y) × (y.position ≡ t)
 place_within all s t place same (y, at_y, there) = (y, at_y, there ∙ same)
 
 -- for the number of pushes that is left
@@ -357,7 +357,7 @@ rest_last board most k s rest enough is zero sum = is
 rest_last board most k s rest enough is (suc m) sum = absurd (omega (arith, enough, sum))
 
 -- the better of two ways is one of them
-pub ways_more : (board : Board) (all : List Entry) (rests : List (Option ℕ)) (k : ℕ) (s : Scene) (old here new : Option Way) →
+pub ways_more : (board : Board) (all : List Node) (rests : List (Option ℕ)) (k : ℕ) (s : Scene) (old here new : Option Way) →
     IfSome new (λ way. (old ≡ Some way) ⊎ (here ≡ Some way)) → ((way : Way) → old ≡ Some way → IsWay board all rests k s way) →
     IfSome here (λ way. IsWay board all rests k s way) → (way : Way) → new ≡ Some way → IsWay board all rests k s way
 ways_more board all rests k s old here None one was now way is = absurd (none-some way is)
@@ -365,7 +365,7 @@ ways_more board all rests k s old here (Some w) (inl e) was now way is = was way
 ways_more board all rests k s old here (Some w) (inr e) was now way is =
     subst (IsWay board all rests k s) (same_Some w way is) (subst (λ (o : Option Way). IfSome o (λ x. IsWay board all rests k s x)) e now)
 
-pub ways_if : (board : Board) (all : List Entry) (rests : List (Option ℕ)) (k : ℕ) (s : Scene) (best : Option Way) →
+pub ways_if : (board : Board) (all : List Node) (rests : List (Option ℕ)) (k : ℕ) (s : Scene) (best : Option Way) →
     ((way : Way) → best ≡ Some way → IsWay board all rests k s way) → IfSome best (λ way. IsWay board all rests k s way)
 ways_if board all rests k s None was = tt
 ways_if board all rests k s (Some w) was = was w refl

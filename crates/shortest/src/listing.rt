@@ -5,7 +5,7 @@ ghost use Rattle.grid.specs.Lawful.{box_count};
 ghost use Rattle.grid.specs.States.{FitsLevel};
 ghost use Rattle.area.specs.Pushes.{CanPush};
 ghost use Rattle.store.specs.FoundView.{FitsGrid};
-ghost use Rattle.store.specs.Visited.{Entry};
+ghost use Rattle.store.specs.Visited.{Node};
 ghost use Rattle.successors.specs.Capping.{capped};
 ghost use Rattle.successors.specs.Expanding.{HasPushesOf};
 ghost use Rattle.shortest.specs.inside.Listing.{EndsListing, IsAfter, IsEntryAt, IsStateList, ListsIf};
@@ -30,7 +30,7 @@ pub(crate) struct Workspace<'a> {
 impl<'a> Workspace<'a> {
     /// The memory for a problem. Fails only if out of memory.
     pub(crate) fn new(alloc: Global, problem: &'a Problem) -> Result<Workspace<'a>, AllocError>
-        ensures { IfOk result (λ workspace. workspace.expander.task ≡ problem.now) }
+        ensures { IfOk result (λ workspace. workspace.expander.problem ≡ problem.now) }
     {
         Ok(Workspace {
             expander: Expander::new(alloc, problem)?,
@@ -112,9 +112,9 @@ fn expand(
 ) -> Result<(), AllocError>
     requires listing { IsStateList bounds.now.board bounds.now.most place listed.old }
     requires place { place < length listed.old.entries }
-    requires board { workspace.old.expander.task.board ≡ bounds.now.board }
+    requires board { workspace.old.expander.problem.board ≡ bounds.now.board }
     ensures listing { OnOk result (IsStateList bounds.now.board bounds.now.most (suc place) listed.new) }
-    ensures board { workspace.new.expander.task.board ≡ bounds.now.board }
+    ensures board { workspace.new.expander.problem.board ≡ bounds.now.board }
 {
     let from = reached_at(listed, place);
     if from.pushes >= bounds.most() {
@@ -134,9 +134,9 @@ fn list_after(
     requires listing { IsStateList bounds.now.board bounds.now.most place listed.old }
     requires at_place { IsEntryAt listed.old.entries place from.now.state from.now.pushes }
     requires fewer { from.now.pushes < bounds.now.most }
-    requires board { workspace.old.expander.task.board ≡ bounds.now.board }
+    requires board { workspace.old.expander.problem.board ≡ bounds.now.board }
     ensures listing { OnOk result (IsStateList bounds.now.board bounds.now.most (suc place) listed.new) }
-    ensures board { workspace.new.expander.task.board ≡ bounds.now.board }
+    ensures board { workspace.new.expander.problem.board ≡ bounds.now.board }
 {
     workspace.expander.find_pushes(&from.state);
     workspace.matching = Matching::new();
@@ -167,7 +167,7 @@ pub(crate) fn state_after(
     slack: &Slack<'_>,
     workspace: &mut Workspace<'_>,
 ) -> Option<Position>
-    requires board { workspace.old.expander.task.board ≡ bounds.now.board }
+    requires board { workspace.old.expander.problem.board ≡ bounds.now.board }
     requires found { HasPushesOf workspace.old.expander from.now.state }
     requires possible { CanPush bounds.now.board from.now.state push }
     requires fits { FitsLevel bounds.now.board from.now.state }
@@ -202,7 +202,7 @@ fn list_if_some(
     pushes: u32,
 ) -> Result<(), AllocError>
     requires fits { IfSome state.now (λ s. FitsGrid listed.old.boxes listed.old.squares s) }
-    requires most { (i : ℕ) (x : Entry) → slice_get listed.old.entries i ≡ Some x → x.pushes ≤ pushes }
+    requires most { (i : ℕ) (x : Node) → slice_get listed.old.entries i ≡ Some x → x.pushes ≤ pushes }
     ensures lists { OnOk result (ListsIf listed.old.entries listed.new.entries pushes state.now) }
     ensures size { (listed.new.boxes ≡ listed.old.boxes) × (listed.new.squares ≡ listed.old.squares) }
 {

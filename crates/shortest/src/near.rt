@@ -285,7 +285,7 @@ fn next_state(
     slack: &Slack<'_>,
     workspace: &mut Workspace<'_>,
 ) -> Option<Position>
-    requires board { workspace.old.expander.task.board ≡ bounds.now.board }
+    requires board { workspace.old.expander.problem.board ≡ bounds.now.board }
     requires fits { FitsLevel bounds.now.board from.now.state }
     requires found { HasPushesOf workspace.old.expander from.now.state }
     requires possible { CanPush bounds.now.board from.now.state push }

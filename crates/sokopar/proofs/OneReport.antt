@@ -12,7 +12,7 @@ use Rattle.lurd.specs.ExactlyOne.{ExactlyOne}
 use Rattle.lurd.specs.Parsing.{Reads}
 use Rattle.lurd.specs.Verdict.{IsVerdict}
 use Rattle.lurd.specs.declared.fault.LurdFault.{LurdFault}
-use Rattle.successors.specs.Tasks.{Task}
+use Rattle.successors.specs.Problems.{Problem}
 use Rattle.successors.specs.Capping.{capped}
 use Rattle.solo.specs.Answers.{IsAnswer}
 use Rattle.solo.specs.declared.answer.Answer.{Answer}
@@ -185,7 +185,7 @@ same_replay_on reading judging n (Some (Ok board)) solution report others (xs, r
 
 -- the solution of a level
 abbrev pub IsOneAnswer : Type 0
-IsOneAnswer = (task : Task) (limit : ℕ) (a b : Answer) → IsLevel task.board → IsAnswer task limit a → IsAnswer task limit b → a ≡ b
+IsOneAnswer = (problem : Problem) (limit : ℕ) (a b : Answer) → IsLevel problem.board → IsAnswer problem limit a → IsAnswer problem limit b → a ≡ b
 
 same_solve : IsOneAnswer → (cap : Option ℕ) (limit : ℕ) (board : Board) → IsLevel board → IsOneAtMost (λ report. IsSolveOf cap limit board report)
 same_solve law cap limit board lawful report others (inl (many, told)) (inl (many₁, also)) = also ∙ sym told

@@ -2,7 +2,7 @@ ghost use Rattle.std.specs.Prelude.{◌≡◌, [], ◌∷◌, ◌++◌, ◌≤�
 ghost use Rattle.std.specs.Io.KnownBytes.{WriteAppends};
 ghost use Rattle.sokopar.specs.Ends.{Seen, moved, failed, untouched_end};
 
-use crate::trail::{Event, Failed, Trail};
+use crate::trail::{Failed, Trail, Transfer};
 use std::fmt;
 use std::fmt::{Debug, Formatter};
 use std::io::Write;
@@ -47,11 +47,11 @@ impl<W: Write + Drop> Sink for Writer<W> {
     fn write(&mut self, text: &[u8]) -> Result<usize, Failed> {
         match self.writer.write(text) {
             Ok(count) if count > 0 => {
-                self.trail = self.trail.then(&Event::Moved(&text[..count]));
+                self.trail = self.trail.then(&Transfer::Moved(&text[..count]));
                 Ok(count)
             }
             _ => {
-                self.trail = self.trail.then(&Event::Failed);
+                self.trail = self.trail.then(&Transfer::Failed);
                 Err(Failed)
             }
         }

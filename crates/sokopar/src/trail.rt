@@ -14,7 +14,7 @@ pub struct Failed;
 
 /// The result of a read or a write: it moved some bytes, or it failed.
 #[derive(Clone, Copy, Drop)]
-pub(crate) enum Event<'a> {
+pub(crate) enum Transfer<'a> {
     Moved(&'a [u8]),
     Failed,
 }
@@ -38,7 +38,7 @@ impl Trail {
     }
 
     /// The history with one more event.
-    pub(crate) fn then(&self, _event: &Event<'_>) -> Trail
+    pub(crate) fn then(&self, _event: &Transfer<'_>) -> Trail
         ensures { result.acts ≡ after self.now.acts _event.now }
     {
         Trail {}

@@ -5,7 +5,7 @@ use Rattle.std.proofs.lemmas.Option.{slice_get_within}
 use Rattle.grid.specs.declared.dir.Dir.{Dir}
 use Rattle.grid.specs.declared.square.Push.{Push}
 use Rattle.grid.specs.Board.{Scene}
-use Rattle.successors.specs.Tasks.{Task}
+use Rattle.successors.specs.Problems.{Problem}
 use Rattle.grid.specs.Lawful.{IsLevel}
 use Rattle.successors.specs.Reaching.{IsLayerOf, AreLayersOf, total}
 use Rattle.successors.specs.Distances.{IsAtDistance}
@@ -18,14 +18,14 @@ use Rattle.solo.proofs.Solving.{layer_distance}
 use Rattle.solo.proofs.Uniqueness.{solved_passes, unsolvable_passes}
 
 -- the limit is passed by the positions of the first layers and of the next one, where no solution has fewer pushes
-passed_by : (task : Task) → IsLevel task.board → (limit pushes : ℕ) (layers : List (List Scene)) → AreLayersOf task layers → length layers ≡ suc pushes →
-    limit < total layers → ((ds : List Dir) (ps : List Push) → IsSolutionOf task ds ps → pushes ≤ length ps) → PassesLimit task limit
-passed_by task level limit pushes layers are long passed unsolved = record {
+passed_by : (problem : Problem) → IsLevel problem.board → (limit pushes : ℕ) (layers : List (List Scene)) → AreLayersOf problem layers → length layers ≡ suc pushes →
+    limit < total layers → ((ds : List Dir) (ps : List Push) → IsSolutionOf problem ds ps → pushes ≤ length ps) → PassesLimit problem limit
+passed_by problem level limit pushes layers are long passed unsolved = record {
   layers = take pushes layers;
   are = λ j xs at. are j xs (take_at layers pushes j xs at).0;
   more = last;
-  distinct = place_unique (level_laws task level) pushes last layer;
-  next = λ n i. subst (λ k. IsAtDistance task n k) (sym short) (layer_distance task level pushes last layer n i);
+  distinct = place_unique (level_laws problem level) pushes last layer;
+  next = λ n i. subst (λ k. IsAtDistance problem n k) (sym short) (layer_distance problem level pushes last layer n i);
   passed = omega (arith, passed, total-take_more layers pushes (omega (arith, long)), ap total (take_short layers (suc pushes) (omega (arith, long))));
   unsolved = λ ds ps solution. omega (arith, short, unsolved ds ps solution);
 }
@@ -33,26 +33,26 @@ passed_by task level limit pushes layers are long passed unsolved = record {
     last : List Scene
     last = get_or layers pushes []
 
-    layer : IsLayerOf task pushes last
+    layer : IsLayerOf problem pushes last
     layer = are pushes last (read_at layers pushes (omega (arith, long)))
 
     short : length (take pushes layers) ≡ pushes
     short = length-take-le pushes layers (omega (arith, long))
 
 -- a level that is solved
-pub limit_solved : (task : Task) (limit pushes positions : ℕ) → IsLevel task.board → IsFewest task pushes → HaveTotal task (suc pushes) positions →
-    PassesLimit task limit ↔ (limit < positions)
-limit_solved task limit pushes positions level (some, fewest) have = (
-  λ p. solved_passes task level limit pushes positions some.0 some.1 some.2 some.3 have p,
-  λ passed. passed_by task level limit pushes have.0 have.1 have.2 (omega (arith, passed, have.3)) fewest,
+pub limit_solved : (problem : Problem) (limit pushes positions : ℕ) → IsLevel problem.board → IsFewest problem pushes → HaveTotal problem (suc pushes) positions →
+    PassesLimit problem limit ↔ (limit < positions)
+limit_solved problem limit pushes positions level (some, fewest) have = (
+  λ p. solved_passes problem level limit pushes positions some.0 some.1 some.2 some.3 have p,
+  λ passed. passed_by problem level limit pushes have.0 have.1 have.2 (omega (arith, passed, have.3)) fewest,
 )
 
 -- a level that is not
-pub limit_unsolvable : (task : Task) (limit positions : ℕ) → IsLevel task.board → HasNoneWithin task → HasInAll task positions →
-    PassesLimit task limit ↔ (limit < positions)
-limit_unsolvable task limit positions level none all = (
-  λ p. unsolvable_passes task level limit positions all p,
-  λ passed. passed_by task level limit (length all.layers - 1) all.layers all.are
+pub limit_unsolvable : (problem : Problem) (limit positions : ℕ) → IsLevel problem.board → HasNoneWithin problem → HasInAll problem positions →
+    PassesLimit problem limit ↔ (limit < positions)
+limit_unsolvable problem limit positions level none all = (
+  λ p. unsolvable_passes problem level limit positions all p,
+  λ passed. passed_by problem level limit (length all.layers - 1) all.layers all.are
       (omega (arith, slice_get_within all.layers (length all.layers - 1) [] all.last)) (omega (arith, passed, all.total))
       (λ ds ps solution. absurd (none ds ps solution)),
 )

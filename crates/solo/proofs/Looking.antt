@@ -6,7 +6,7 @@ use Rattle.std.proofs.lemmas.List.Sums.{sum_by_push}
 use Rattle.grid.specs.declared.moves.Letter.{Letter}
 use Rattle.grid.specs.Board.{Scene}
 use Rattle.grid.specs.Lawful.{IsLevel}
-use Rattle.successors.specs.Tasks.{Task}
+use Rattle.successors.specs.Problems.{Problem}
 use Rattle.grid.specs.declared.square.Push.{Push}
 use Rattle.store.specs.Entries.{Origin}
 use Rattle.successors.specs.Reaching.{IsLayerOf, total}
@@ -20,21 +20,21 @@ use Rattle.solo.proofs.ReadingBack.{trail_long}
 use Rattle.solo.proofs.Solving.{searched_more, solved_answer, none_answer, limit_answer}
 
 -- the next layer is that of the level
-next_layer : (task : Task) (layers : List LayerView) (trail : List (List (Origin Push))) (layer : LayerView) → AreTrailed task layers trail →
-    layer.level ≡ task → layer.number ≡ length trail → IsWhole layer → IsLayerOf task (length (places_by_layer layers)) layer.places
-next_layer task layers trail layer trailed level next whole =
-    subst (λ k. IsLayerOf task k layer.places) (next ∙ sym (trail_long task layers trail trailed) ∙ sym (length-map layers (λ (x : LayerView). x.places)))
+next_layer : (problem : Problem) (layers : List LayerView) (trail : List (List (Origin Push))) (layer : LayerView) → AreTrailed problem layers trail →
+    layer.level ≡ problem → layer.number ≡ length trail → IsWhole layer → IsLayerOf problem (length (places_by_layer layers)) layer.places
+next_layer problem layers trail layer trailed level next whole =
+    subst (λ k. IsLayerOf problem k layer.places) (next ∙ sym (trail_long problem layers trail trailed) ∙ sym (length-map layers (λ (x : LayerView). x.places)))
     (subst (λ b. IsLayerOf b layer.number layer.places) level whole.layer)
 
 -- with it the layers are a trail
-trailed_more : (task : Task) (layers : List LayerView) (trail : List (List (Origin Push))) (layer : LayerView) → AreTrailed task layers trail →
-    layer.level ≡ task → layer.number ≡ length trail → IsWhole layer → AreTrailed task (layers ++ layer ∷ []) (trail ++ layer.origins ∷ [])
-trailed_more task layers trail layer trailed level next whole = record {
+trailed_more : (problem : Problem) (layers : List LayerView) (trail : List (List (Origin Push))) (layer : LayerView) → AreTrailed problem layers trail →
+    layer.level ≡ problem → layer.number ≡ length trail → IsWhole layer → AreTrailed problem (layers ++ layer ∷ []) (trail ++ layer.origins ∷ [])
+trailed_more problem layers trail layer trailed level next whole = record {
   each = λ j l at. elim (at-push layers layer j l at) [
     | inl old ↦ trailed.each j l old
     | inr new ↦ (
       ap (λ (x : LayerView). x.level) new.1 ∙ level,
-      ap (λ (x : LayerView). x.number) new.1 ∙ next ∙ sym (trail_long task layers trail trailed) ∙ sym new.0,
+      ap (λ (x : LayerView). x.number) new.1 ∙ next ∙ sym (trail_long problem layers trail trailed) ∙ sym new.0,
       subst IsWhole (sym new.1) whole,
     )
   ];
@@ -42,7 +42,7 @@ trailed_more task layers trail layer trailed level next whole = record {
 }
 
 -- the layer comes next after those whose origins are kept
-pub is_next : (s : SearchView) (layer : LayerView) → IsLookedAt s.task s.limit s.trail s.positions → IsNextLayer s layer → IsNextOf s.trail layer
+pub is_next : (s : SearchView) (layer : LayerView) → IsLookedAt s.problem s.limit s.trail s.positions → IsNextLayer s layer → IsNextOf s.trail layer
 is_next s layer looked next = record {
   layers = looked.layers;
   trailed = subst (λ t. AreTrailed t looked.layers s.trail) (sym next.0) looked.trailed;
@@ -51,39 +51,39 @@ is_next s layer looked next = record {
 
 -- ---- what the layer that comes next gives
 
-module _ (s : SearchView) (layer : LayerView) (looked : IsLookedAt s.task s.limit s.trail s.positions) (next : IsNextLayer s layer) (whole : IsWhole layer) where
+module _ (s : SearchView) (layer : LayerView) (looked : IsLookedAt s.problem s.limit s.trail s.positions) (next : IsNextLayer s layer) (whole : IsWhole layer) where
   abbrev layers : List LayerView
   layers = looked.layers
 
-  here : IsLayerOf s.task (length (places_by_layer layers)) layer.places
-  here = next_layer s.task layers s.trail layer looked.trailed next.0 next.1 whole
+  here : IsLayerOf s.problem (length (places_by_layer layers)) layer.places
+  here = next_layer s.problem layers s.trail layer looked.trailed next.0 next.1 whole
 
-  level : IsLevel s.task.board
-  level = subst (λ (t : Task). IsLevel t.board) next.0 whole.lawful
+  level : IsLevel s.problem.board
+  level = subst (λ (t : Problem). IsLevel t.board) next.0 whole.lawful
 
   -- its first solved position gives the answer
   pub solved_here : (rank : ℕ) (letters : List Letter) → IsFirstSolved layer.level.board layer.places rank →
       ((n : Scene) → slice_get layer.places rank ≡ Some n → WritesLead layer.level.board n letters) → s.positions + length layer.places ≤ s.limit →
-      IsAnswer s.task s.limit (Solved letters layer.number (s.positions + length layer.places))
+      IsAnswer s.problem s.limit (Solved letters layer.number (s.positions + length layer.places))
   solved_here rank letters first lead within =
-      let first_here : IsFirstSolved s.task.board layer.places rank = subst (λ (t : Task). IsFirstSolved t.board layer.places rank) next.0 first in
-      subst (λ p. IsAnswer s.task s.limit (Solved letters layer.number p)) (omega (arith, looked.count))
-      (subst (λ k. IsAnswer s.task s.limit (Solved letters k (total (places_by_layer layers) + length layer.places)))
-      (length-map layers (λ (x : LayerView). x.places) ∙ trail_long s.task layers s.trail looked.trailed ∙ sym next.1)
-      (solved_answer s.task s.limit (places_by_layer layers) layer.places rank first_here.place letters level looked.searched
+      let first_here : IsFirstSolved s.problem.board layer.places rank = subst (λ (t : Problem). IsFirstSolved t.board layer.places rank) next.0 first in
+      subst (λ p. IsAnswer s.problem s.limit (Solved letters layer.number p)) (omega (arith, looked.count))
+      (subst (λ k. IsAnswer s.problem s.limit (Solved letters k (total (places_by_layer layers) + length layer.places)))
+      (length-map layers (λ (x : LayerView). x.places) ∙ trail_long s.problem layers s.trail looked.trailed ∙ sym next.1)
+      (solved_answer s.problem s.limit (places_by_layer layers) layer.places rank first_here.place letters level looked.searched
       here first_here first_here.there
-      (subst (λ (t : Task). WritesLead t.board first_here.place letters) next.0 (lead first_here.place first_here.there)) (omega (arith, looked.count, within))))
+      (subst (λ (t : Problem). WritesLead t.board first_here.place letters) next.0 (lead first_here.place first_here.there)) (omega (arith, looked.count, within))))
 
   -- with it the count passes the limit
-  pub look_limit : s.limit < s.positions + length layer.places → IsAnswer s.task s.limit Limit
-  look_limit passed = limit_answer s.task s.limit (places_by_layer layers) layer.places level looked.searched here (omega (arith, looked.count, passed))
+  pub look_limit : s.limit < s.positions + length layer.places → IsAnswer s.problem s.limit Limit
+  look_limit passed = limit_answer s.problem s.limit (places_by_layer layers) layer.places level looked.searched here (omega (arith, looked.count, passed))
 
   -- it is empty
-  pub look_none : length layer.places ≡ 0 → HasNone s.task s.limit (s.positions + length layer.places)
+  pub look_none : length layer.places ≡ 0 → HasNone s.problem s.limit (s.positions + length layer.places)
   look_none none =
-      subst (HasNone s.task s.limit) same
-      (none_answer s.task s.limit (places_by_layer layers) level looked.searched
-      (subst (IsLayerOf s.task (length (places_by_layer layers))) (nil_from_length layer.places none) here) (omega (arith, looked.count, looked.within))) where
+      subst (HasNone s.problem s.limit) same
+      (none_answer s.problem s.limit (places_by_layer layers) level looked.searched
+      (subst (IsLayerOf s.problem (length (places_by_layer layers))) (nil_from_length layer.places none) here) (omega (arith, looked.count, looked.within))) where
         same : total (places_by_layer layers) ≡ s.positions + length layer.places
         same = omega (arith, looked.count, none)
 
@@ -92,9 +92,9 @@ module _ (s : SearchView) (layer : LayerView) (looked : IsLookedAt s.task s.limi
   look_on filled unsolved within = record {
     looked = record {
       layers = layers ++ layer ∷ [];
-      trailed = trailed_more s.task layers s.trail layer looked.trailed next.0 next.1 whole;
-      searched = subst (AreSearched s.task) (sym places) (searched_more s.task (places_by_layer layers) layer.places looked.searched here filled
-          (subst (λ (t : Task). AreUnsolved t.board layer.places) next.0 unsolved));
+      trailed = trailed_more s.problem layers s.trail layer looked.trailed next.0 next.1 whole;
+      searched = subst (AreSearched s.problem) (sym places) (searched_more s.problem (places_by_layer layers) layer.places looked.searched here filled
+          (subst (λ (t : Problem). AreUnsolved t.board layer.places) next.0 unsolved));
       count = counted;
       within = within;
     };

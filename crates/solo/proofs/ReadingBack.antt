@@ -8,7 +8,7 @@ use Rattle.grid.specs.declared.square.Push.{Push}
 use Rattle.grid.specs.declared.moves.Letter.{Letter}
 use Rattle.grid.specs.Board.{Board, Scene}
 use Rattle.grid.proofs.lemmas.Plays.{play_any}
-use Rattle.successors.specs.Tasks.{Task}
+use Rattle.successors.specs.Problems.{Problem}
 use Rattle.layers.specs.LayerView.{LayerView, IsWhole}
 use Rattle.store.specs.Entries.{Origin}
 use Rattle.successors.specs.Reaching.{IsLayerOf}
@@ -48,15 +48,15 @@ pub origin_at : (before layer : LayerView) → IsWhole before → IsWhole layer 
 origin_at before layer whole_before whole level number rank lt o at =
     let m = there_is layer.places rank lt in
     let origin : HasOrigin layer.level before.number m.0 o = (whole.later before.number number).right rank m.0 o m.1 at in
-    let x = origin before.places (subst (λ (task : Task). IsLayerOf task before.number before.places) level whole_before.layer) in
+    let x = origin before.places (subst (λ (problem : Problem). IsLayerOf problem before.number before.places) level whole_before.layer) in
     record { place = m.0; there = m.1; parent = x.0; parent_there = x.1; lead = x.2 }
 
 -- nothing is read yet
-pub read_begins : (layers : List LayerView) (task : Task) (rank : ℕ) → rank < length (last_places layers) →
-    IsReadBack layers task rank (length layers - 1) rank []
-read_begins layers task rank lt = by (slice_get layers (length layers - 1)) refl
+pub read_begins : (layers : List LayerView) (problem : Problem) (rank : ℕ) → rank < length (last_places layers) →
+    IsReadBack layers problem rank (length layers - 1) rank []
+read_begins layers problem rank lt = by (slice_get layers (length layers - 1)) refl
   where
-    by : (o : Option LayerView) → slice_get layers (length layers - 1) ≡ o → IsReadBack layers task rank (length layers - 1) rank []
+    by : (o : Option LayerView) → slice_get layers (length layers - 1) ≡ o → IsReadBack layers problem rank (length layers - 1) rank []
     by None e = absurd (let none = ap (λ (o : Option LayerView). length (places_or_none o)) e in omega arith)
     by (Some layer) e =
         let same : last_places layers ≡ layer.places = ap places_or_none e in
@@ -69,14 +69,14 @@ read_begins layers task rank lt = by (slice_get layers (length layers - 1)) refl
           there = m.1;
           end = m.0;
           asked_for = ap (λ (xs : List Scene). slice_get xs rank) same ∙ m.1;
-          lead = λ ps lead. subst (IsLeadOf task.board m.0) (sym (append-nil ps)) lead;
+          lead = λ ps lead. subst (IsLeadOf problem.board m.0) (sym (append-nil ps)) lead;
         }
 
 -- one push more is read
-pub read_on : (layers : List LayerView) (task : Task) (asked number lower rank : ℕ) (late : List Push) → IsReadBack layers task asked number rank late →
+pub read_on : (layers : List LayerView) (problem : Problem) (asked number lower rank : ℕ) (late : List Push) → IsReadBack layers problem asked number rank late →
     (before layer : LayerView) → slice_get layers lower ≡ Some before → slice_get layers number ≡ Some layer → (o : Origin Push) →
-    IsOriginAt task before.places layer.places rank o → IsReadBack layers task asked lower o.0 (o.1 ∷ late)
-read_on layers task asked number lower rank late r before layer at_before at_layer o origin =
+    IsOriginAt problem before.places layer.places rank o → IsReadBack layers problem asked lower o.0 (o.1 ∷ late)
+read_on layers problem asked number lower rank late r before layer at_before at_layer o origin =
     let same : r.layer ≡ layer = same_Some r.layer layer (sym r.in_layer ∙ at_layer) in
     let there : slice_get layer.places rank ≡ Some r.place = subst (λ (l : LayerView). slice_get l.places rank ≡ Some r.place) same r.there in
     let place : origin.place ≡ r.place = same_Some origin.place r.place (sym origin.there ∙ there) in
@@ -87,27 +87,27 @@ read_on layers task asked number lower rank late r before layer at_before at_lay
       there = origin.parent_there;
       end = r.end;
       asked_for = r.asked_for;
-      lead = λ ps lead. subst (IsLeadOf task.board r.end) (append_assoc ps (o.1 ∷ []) late)
-          (r.lead (ps ++ o.1 ∷ []) (subst (λ (m : Scene). IsLeadOf task.board m (ps ++ o.1 ∷ [])) place (origin.lead ps lead)));
+      lead = λ ps lead. subst (IsLeadOf problem.board r.end) (append_assoc ps (o.1 ∷ []) late)
+          (r.lead (ps ++ o.1 ∷ []) (subst (λ (m : Scene). IsLeadOf problem.board m (ps ++ o.1 ∷ [])) place (origin.lead ps lead)));
     }
 
 -- the layers of a trail are as many as it has lists
-pub trail_long : (task : Task) (layers : List LayerView) (trail : List (List (Origin Push))) → AreTrailed task layers trail → length layers ≡ length trail
-trail_long task layers trail trailed = sym (length-map layers (λ (x : LayerView). x.origins)) ∙ ap (λ (xs : List (List (Origin Push))). length xs) trailed.shown
+pub trail_long : (problem : Problem) (layers : List LayerView) (trail : List (List (Origin Push))) → AreTrailed problem layers trail → length layers ≡ length trail
+trail_long problem layers trail trailed = sym (length-map layers (λ (x : LayerView). x.origins)) ∙ ap (λ (xs : List (List (Origin Push))). length xs) trailed.shown
 
 -- what a trail has of a layer
-trail_at : (task : Task) (layers : List LayerView) (trail : List (List (Origin Push))) → AreTrailed task layers trail → (k : ℕ) (layer : LayerView) →
+trail_at : (problem : Problem) (layers : List LayerView) (trail : List (List (Origin Push))) → AreTrailed problem layers trail → (k : ℕ) (layer : LayerView) →
     slice_get layers k ≡ Some layer → slice_get trail k ≡ Some layer.origins
-trail_at task layers trail trailed k layer at =
+trail_at problem layers trail trailed k layer at =
     ap (λ (xs : List (List (Origin Push))). slice_get xs k) (sym trailed.shown) ∙ slice_get-map (λ (x : LayerView). x.origins) layers k
     ∙ ap (option_map (λ (x : LayerView). x.origins)) at
 
 -- a position of a later layer that was come to has an origin, and one push more is read
-pub read_origin : (task : Task) (layers : List LayerView) (trail : List (List (Origin Push))) → AreTrailed task layers trail →
-    (asked k rank : ℕ) (read : List Push) → 1 ≤ k → IsReadBack layers task asked k rank (reverse read) → (list : List (Origin Push)) →
+pub read_origin : (problem : Problem) (layers : List LayerView) (trail : List (List (Origin Push))) → AreTrailed problem layers trail →
+    (asked k rank : ℕ) (read : List Push) → 1 ≤ k → IsReadBack layers problem asked k rank (reverse read) → (list : List (Origin Push)) →
     slice_get trail k ≡ Some list → (found : Option (Origin Push)) → found ≡ slice_get list rank →
-    (o : Origin Push) × (found ≡ Some o) × IsReadBack layers task asked (k - 1) o.0 (reverse (read ++ o.1 ∷ []))
-read_origin task layers trail trailed asked k rank read later r list at found is = by found refl
+    (o : Origin Push) × (found ≡ Some o) × IsReadBack layers problem asked (k - 1) o.0 (reverse (read ++ o.1 ∷ []))
+read_origin problem layers trail trailed asked k rank read later r list at found is = by found refl
   where
     layer : LayerView
     layer = r.layer
@@ -131,37 +131,37 @@ read_origin task layers trail trailed asked k rank read later r list at found is
     lt = slice_get_within layer.places rank r.place r.there
 
     own : list ≡ layer.origins
-    own = same_Some list layer.origins (sym at ∙ trail_at task layers trail trailed k layer r.in_layer)
+    own = same_Some list layer.origins (sym at ∙ trail_at problem layers trail trailed k layer r.in_layer)
 
     here : found ≡ slice_get layer.origins rank
     here = is ∙ ap (λ (xs : List (Origin Push)). slice_get xs rank) own
 
-    by : (o : Option (Origin Push)) → found ≡ o → (o : Origin Push) × (found ≡ Some o) × IsReadBack layers task asked (k - 1) o.0 (reverse (read ++ o.1 ∷ []))
+    by : (o : Option (Origin Push)) → found ≡ o → (o : Origin Push) × (found ≡ Some o) × IsReadBack layers problem asked (k - 1) o.0 (reverse (read ++ o.1 ∷ []))
     by None e = absurd (origin_there before layer whole number rank lt (sym here ∙ e))
     by (Some o) e =
         let level = (trailed.each k layer r.in_layer).0 in
         let origin = origin_at before layer (trailed.each (k - 1) before at_before).2 whole ((trailed.each (k - 1) before at_before).0
-        ∙ sym level) number rank lt o (sym here ∙ e) in let next = read_on layers task asked k (k - 1) rank (reverse read) r before layer at_before r.in_layer o
-        (subst (λ (b : Task). IsOriginAt b before.places layer.places rank o) level origin) in
-        (o, e, subst (IsReadBack layers task asked (k - 1) o.0) (sym (reverse-append read (o.1 ∷ []))) next)
+        ∙ sym level) number rank lt o (sym here ∙ e) in let next = read_on layers problem asked k (k - 1) rank (reverse read) r before layer at_before r.in_layer o
+        (subst (λ (b : Problem). IsOriginAt b before.places layer.places rank o) level origin) in
+        (o, e, subst (IsReadBack layers problem asked (k - 1) o.0) (sym (reverse-append read (o.1 ∷ []))) next)
 
 -- in layer 0 all is read
-pub read_done : (task : Task) (layers : List LayerView) (trail : List (List (Origin Push))) → AreTrailed task layers trail →
-    (asked k rank : ℕ) (late : List Push) → k ≡ 0 → IsReadBack layers task asked k rank late → IsLeadAt task (last_places layers) asked late
-read_done task layers trail trailed asked k rank late none r =
+pub read_done : (problem : Problem) (layers : List LayerView) (trail : List (List (Origin Push))) → AreTrailed problem layers trail →
+    (asked k rank : ℕ) (late : List Push) → k ≡ 0 → IsReadBack layers problem asked k rank late → IsLeadAt problem (last_places layers) asked late
+read_done problem layers trail trailed asked k rank late none r =
     let own = ((layer_0.leads rank r.place r.there).1) in
-    record { place = r.end; there = r.asked_for; lead = r.lead [] (subst (IsLeadOf task.board r.place) (empty own.0 own.2) own.1) }
+    record { place = r.end; there = r.asked_for; lead = r.lead [] (subst (IsLeadOf problem.board r.place) (empty own.0 own.2) own.1) }
   where
     empty : (ps : List Push) → length ps ≡ 0 → ps ≡ []
     empty [] e = refl
     empty (p ∷ ps) e = absurd (omega arith)
 
-    here : (r.layer.level ≡ task) × (r.layer.number ≡ k) × IsWhole r.layer
+    here : (r.layer.level ≡ problem) × (r.layer.number ≡ k) × IsWhole r.layer
     here = trailed.each k r.layer r.in_layer
 
-    layer_0 : IsLayerOf task 0 r.layer.places
-    layer_0 = subst (λ (n : ℕ). IsLayerOf task n r.layer.places) (here.1 ∙ none)
-        (subst (λ (b : Task). IsLayerOf b r.layer.number r.layer.places) here.0 here.2.layer)
+    layer_0 : IsLayerOf problem 0 r.layer.places
+    layer_0 = subst (λ (n : ℕ). IsLayerOf problem n r.layer.places) (here.1 ∙ none)
+        (subst (λ (b : Problem). IsLayerOf b r.layer.number r.layer.places) here.0 here.2.layer)
 
 -- the origins at an index, for each type that has them
 told_at : {P : Type 0} (origins : P → List (Origin Push)) (trail : List P) (k : ℕ) (p : P) → k < length trail → p ≡ slice_index_or trail k p →
@@ -170,34 +170,34 @@ told_at origins trail k p lt is =
     slice_get-map origins trail k ∙ ap (option_map origins) (slice_get_read trail (length trail) k p refl lt is)
 
 -- before the first look nothing is read
-pub read_first : {P : Type 0} (origins : P → List (Origin Push)) (trail : List P) (task : Task) (layers : List LayerView) →
-    AreTrailed task layers (map origins trail) → (asked : ℕ) → asked < length (last_places layers) →
-    IsReadBack layers task asked (length trail - 1) asked (reverse [])
-read_first origins trail task layers trailed asked lt =
-    subst (λ (n : ℕ). IsReadBack layers task asked (n - 1) asked []) (trail_long task layers (map origins trail) trailed ∙ length-map trail origins)
-    (read_begins layers task asked lt)
+pub read_first : {P : Type 0} (origins : P → List (Origin Push)) (trail : List P) (problem : Problem) (layers : List LayerView) →
+    AreTrailed problem layers (map origins trail) → (asked : ℕ) → asked < length (last_places layers) →
+    IsReadBack layers problem asked (length trail - 1) asked (reverse [])
+read_first origins trail problem layers trailed asked lt =
+    subst (λ (n : ℕ). IsReadBack layers problem asked (n - 1) asked []) (trail_long problem layers (map origins trail) trailed ∙ length-map trail origins)
+    (read_begins layers problem asked lt)
 
 -- a look at the parents of the layer that was come to reads one push more
-pub read_some : {P : Type 0} (origins : P → List (Origin Push)) (trail : List P) (task : Task) (layers : List LayerView) →
-    AreTrailed task layers (map origins trail) → (asked number rank : ℕ) (read after : List Push) → 1 < number → number ≤ length trail →
-    IsReadBack layers task asked (number - 1) rank (reverse read) → (p : P) → p ≡ slice_index_or trail (number - 1) p → (found : Option (Origin Push)) →
+pub read_some : {P : Type 0} (origins : P → List (Origin Push)) (trail : List P) (problem : Problem) (layers : List LayerView) →
+    AreTrailed problem layers (map origins trail) → (asked number rank : ℕ) (read after : List Push) → 1 < number → number ≤ length trail →
+    IsReadBack layers problem asked (number - 1) rank (reverse read) → (p : P) → p ≡ slice_index_or trail (number - 1) p → (found : Option (Origin Push)) →
     found ≡ slice_get (origins p) rank → (o : Origin Push) → found ≡ Some o → after ≡ read ++ o.1 ∷ [] →
-    IsReadBack layers task asked ((number - 1) - 1) o.0 (reverse after)
-read_some origins trail task layers trailed asked number rank read after more within r p is found told o some items =
+    IsReadBack layers problem asked ((number - 1) - 1) o.0 (reverse after)
+read_some origins trail problem layers trailed asked number rank read after more within r p is found told o some items =
     let at = told_at origins trail (number - 1) p (omega (arith, more, within)) is in
-    let x = read_origin task layers (map origins trail) trailed asked (number - 1) rank read (omega (arith, more)) r (origins p) at found told in
+    let x = read_origin problem layers (map origins trail) trailed asked (number - 1) rank read (omega (arith, more)) r (origins p) at found told in
     let same : x.0 ≡ o = same_Some x.0 o (sym x.1 ∙ some) in
-    subst (λ (ps : List Push). IsReadBack layers task asked ((number - 1) - 1) o.0 (reverse ps)) (sym items)
-    (subst (λ (y : Origin Push). IsReadBack layers task asked ((number - 1) - 1) y.0 (reverse (read ++ y.1 ∷ []))) same x.2)
+    subst (λ (ps : List Push). IsReadBack layers problem asked ((number - 1) - 1) o.0 (reverse ps)) (sym items)
+    (subst (λ (y : Origin Push). IsReadBack layers problem asked ((number - 1) - 1) y.0 (reverse (read ++ y.1 ∷ []))) same x.2)
 
 -- and finds one
-pub read_none : {P : Type 0} (origins : P → List (Origin Push)) (trail : List P) (task : Task) (layers : List LayerView) →
-    AreTrailed task layers (map origins trail) → (asked number rank : ℕ) (read : List Push) → 1 < number → number ≤ length trail →
-    IsReadBack layers task asked (number - 1) rank (reverse read) → (p : P) → p ≡ slice_index_or trail (number - 1) p → (found : Option (Origin Push)) →
-    found ≡ slice_get (origins p) rank → found ≡ None → IsReadBack layers task asked ((number - 1) - 1) rank (reverse read)
-read_none origins trail task layers trailed asked number rank read more within r p is found told none =
+pub read_none : {P : Type 0} (origins : P → List (Origin Push)) (trail : List P) (problem : Problem) (layers : List LayerView) →
+    AreTrailed problem layers (map origins trail) → (asked number rank : ℕ) (read : List Push) → 1 < number → number ≤ length trail →
+    IsReadBack layers problem asked (number - 1) rank (reverse read) → (p : P) → p ≡ slice_index_or trail (number - 1) p → (found : Option (Origin Push)) →
+    found ≡ slice_get (origins p) rank → found ≡ None → IsReadBack layers problem asked ((number - 1) - 1) rank (reverse read)
+read_none origins trail problem layers trailed asked number rank read more within r p is found told none =
     let at = told_at origins trail (number - 1) p (omega (arith, more, within)) is in
-    let x = read_origin task layers (map origins trail) trailed asked (number - 1) rank read (omega (arith, more)) r (origins p) at found told in
+    let x = read_origin problem layers (map origins trail) trailed asked (number - 1) rank read (omega (arith, more)) r (origins p) at found told in
     absurd (none-some x.0 (sym none ∙ x.1))
 
 lesser_or_same : (j k : ℕ) → j < suc k → (j < k) ⊎ (j ≡ k)
@@ -264,8 +264,8 @@ last_before layers before at = ap places_or_none at
 -- a position with an origin has the lead of its parent, and then the push
 pub back_on : (trail : List (List (Origin Push))) (layer : LayerView) → IsNextOf trail layer → IsWhole layer → (rank : ℕ) → rank < length layer.places →
     (o : Origin Push) → slice_get layer.origins rank ≡ Some o → (pushes : List Push) →
-    ((task : Task) (layers : List LayerView) → AreTrailed task layers trail → o.0 < length (last_places layers) →
-    IsLeadAt task (last_places layers) o.0 pushes) → IsLeadAt layer.level layer.places rank (pushes ++ o.1 ∷ [])
+    ((problem : Problem) (layers : List LayerView) → AreTrailed problem layers trail → o.0 < length (last_places layers) →
+    IsLeadAt problem (last_places layers) o.0 pushes) → IsLeadAt layer.level layer.places rank (pushes ++ o.1 ∷ [])
 back_on trail layer next whole rank lt o at pushes read = by layer.number refl
   where
     layers : List LayerView
@@ -295,12 +295,12 @@ back_on trail layer next whole rank lt o at pushes read = by layer.number refl
 -- ---- a lead that was read
 
 -- is the pushes of a play
-pub lead_played : (task : Task) (other : Board) (places : List Scene) (rank : ℕ) (ps qs : List Push) → other ≡ task.board → qs ≡ ps →
-    IsLeadAt task places rank ps → ArePlayed other qs
-lead_played task other places rank ps qs level same lead =
+pub lead_played : (problem : Problem) (other : Board) (places : List Scene) (rank : ℕ) (ps qs : List Push) → other ≡ problem.board → qs ≡ ps →
+    IsLeadAt problem places rank ps → ArePlayed other qs
+lead_played problem other places rank ps qs level same lead =
     let reached = lead.lead.reached in
-    let played : ArePlayed task.board ps = (reached.0, reached.1, play_any reached.2) in
-    subst (λ (b : Board). ArePlayed b qs) (sym level) (subst (ArePlayed task.board) (sym same) played)
+    let played : ArePlayed problem.board ps = (reached.0, reached.1, play_any reached.2) in
+    subst (λ (b : Board). ArePlayed b qs) (sym level) (subst (ArePlayed problem.board) (sym same) played)
 
 -- the least play whose pushes are a lead
 lead_written : (board : Board) (n : Scene) (ps : List Push) (t : Scene) (xs : List Letter) → IsLeadOf board n ps → WritesLeastPlay board ps t xs →
@@ -310,11 +310,11 @@ lead_written board n ps t xs lead w =
     record { pushes = ps; lead = lead; end = t; play = play.0; written = play.1; least = none_lesser board ps t xs w }
 
 -- so its least play is the one that is asked for
-pub lead_moves : (task : Task) (other : Board) (places : List Scene) (rank : ℕ) (ps qs : List Push) (letters : List Letter) → other ≡ task.board → qs ≡ ps →
-    IsLeadAt task places rank ps → ((t : Scene) × WritesLeastPlay other qs t letters) → (n : Scene) → slice_get places rank ≡ Some n →
-    WritesLead task.board n letters
-lead_moves task other places rank ps qs letters level same lead w n at =
+pub lead_moves : (problem : Problem) (other : Board) (places : List Scene) (rank : ℕ) (ps qs : List Push) (letters : List Letter) → other ≡ problem.board → qs ≡ ps →
+    IsLeadAt problem places rank ps → ((t : Scene) × WritesLeastPlay other qs t letters) → (n : Scene) → slice_get places rank ≡ Some n →
+    WritesLead problem.board n letters
+lead_moves problem other places rank ps qs letters level same lead w n at =
     let place : lead.place ≡ n = same_Some lead.place n (sym lead.there ∙ at) in
-    let written : WritesLeastPlay task.board ps w.0 letters = subst (λ (b : Board). WritesLeastPlay b ps w.0 letters) level
+    let written : WritesLeastPlay problem.board ps w.0 letters = subst (λ (b : Board). WritesLeastPlay b ps w.0 letters) level
     (subst (λ (rs : List Push). WritesLeastPlay other rs w.0 letters) same w.1) in
-    lead_written task.board n ps w.0 letters (subst (λ (m : Scene). IsLeadOf task.board m ps) place lead.lead) written
+    lead_written problem.board n ps w.0 letters (subst (λ (m : Scene). IsLeadOf problem.board m ps) place lead.lead) written

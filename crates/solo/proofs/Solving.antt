@@ -23,7 +23,7 @@ use Rattle.area.proofs.lemmas.Norms.{norm_exists}
 use Rattle.doom.proofs.lemmas.Bounds.{solved_need_none}
 use Rattle.doom.proofs.lemmas.Soundness.{solution_safe}
 use Rattle.successors.specs.Layered.{IsIn}
-use Rattle.successors.specs.Tasks.{Task, IsAdmitted}
+use Rattle.successors.specs.Problems.{Problem, IsAdmitted}
 use Rattle.successors.specs.Capping.{Admits}
 use Rattle.successors.specs.Reaching.{Reaches, IsLayerOf, AreLayersOf, total}
 use Rattle.layers.specs.Leads.{IsLeadOf}
@@ -46,33 +46,33 @@ total-push [] xs = omega arith
 total-push (ys ∷ xss) xs = omega (arith, sum_by_first length ys (xss ++ xs ∷ []), sum_by_first length ys xss, total-push xss xs)
 
 -- the first layers with the next one are the first layers
-pub layers_more : (task : Task) (layers : List (List Scene)) (xs : List Scene) → AreLayersOf task layers → IsLayerOf task (length layers) xs →
-    AreLayersOf task (layers ++ xs ∷ [])
-layers_more task layers xs are layer j ys at_j = elim (at-push layers xs j ys at_j) [
+pub layers_more : (problem : Problem) (layers : List (List Scene)) (xs : List Scene) → AreLayersOf problem layers → IsLayerOf problem (length layers) xs →
+    AreLayersOf problem (layers ++ xs ∷ [])
+layers_more problem layers xs are layer j ys at_j = elim (at-push layers xs j ys at_j) [
   | inl old ↦ are j ys old
-  | inr last ↦ subst (λ zs. IsLayerOf task j zs) (sym last.1) (subst (λ i. IsLayerOf task i xs) (sym last.0) layer)
+  | inr last ↦ subst (λ zs. IsLayerOf problem j zs) (sym last.1) (subst (λ i. IsLayerOf problem i xs) (sym last.0) layer)
 ]
 
 -- before a search no layer was searched
-pub none_searched : (task : Task) → AreSearched task []
-none_searched task = record {
+pub none_searched : (problem : Problem) → AreSearched problem []
+none_searched problem = record {
   are = λ j xs at_j. absurd (none-some xs at_j);
   filled = λ j xs at_j. absurd (none-some xs at_j);
   unsolved = λ j xs at_j. absurd (none-some xs at_j);
 }
 
 -- a layer that is neither empty nor has a solved position is searched too
-pub searched_more : (task : Task) (layers : List (List Scene)) (xs : List Scene) → AreSearched task layers → IsLayerOf task (length layers) xs →
-    1 ≤ length xs → AreUnsolved task.board xs → AreSearched task (layers ++ xs ∷ [])
-searched_more task layers xs searched layer some unsolved = record {
-  are = layers_more task layers xs searched.are layer;
+pub searched_more : (problem : Problem) (layers : List (List Scene)) (xs : List Scene) → AreSearched problem layers → IsLayerOf problem (length layers) xs →
+    1 ≤ length xs → AreUnsolved problem.board xs → AreSearched problem (layers ++ xs ∷ [])
+searched_more problem layers xs searched layer some unsolved = record {
+  are = layers_more problem layers xs searched.are layer;
   filled = λ j ys at_j. elim (at-push layers xs j ys at_j) [
     | inl old ↦ searched.filled j ys old
     | inr last ↦ omega (arith, ap length last.1)
   ];
   unsolved = λ j ys at_j. elim (at-push layers xs j ys at_j) [
     | inl old ↦ searched.unsolved j ys old
-    | inr last ↦ subst (AreUnsolved task.board) (sym last.1) unsolved
+    | inr last ↦ subst (AreUnsolved problem.board) (sym last.1) unsolved
   ];
 }
 
@@ -96,65 +96,65 @@ fewer_kept None j k le kept = tt
 fewer_kept (Some most) j k le kept = omega (arith, le, kept)
 
 -- an admitted position is come to within the cap
-pub admitted_kept : (task : Task) (k : ℕ) (n : Scene) → Admits task k n → KeepsCap task.cap k
-admitted_kept task k n adm = go task.cap adm
+pub admitted_kept : (problem : Problem) (k : ℕ) (n : Scene) → Admits problem k n → KeepsCap problem.cap k
+admitted_kept problem k n adm = go problem.cap adm
   where
-    go : (cap : Option ℕ) → IsAdmitted task.board cap k n → KeepsCap cap k
+    go : (cap : Option ℕ) → IsAdmitted problem.board cap k n → KeepsCap cap k
     go None any = tt
     go (Some most) (low, lower, le) = omega (arith, le)
 
 -- a solved position is admitted within the cap
-pub solved_admitted : (task : Task) (k : ℕ) (n : Scene) → IsSolved task.board n → KeepsCap task.cap k → Admits task k n
-solved_admitted task k n solved kept = go task.cap kept
+pub solved_admitted : (problem : Problem) (k : ℕ) (n : Scene) → IsSolved problem.board n → KeepsCap problem.cap k → Admits problem k n
+solved_admitted problem k n solved kept = go problem.cap kept
   where
-    go : (cap : Option ℕ) → KeepsCap cap k → IsAdmitted task.board cap k n
+    go : (cap : Option ℕ) → KeepsCap cap k → IsAdmitted problem.board cap k n
     go None any = tt
-    go (Some most) le = (0, solved_need_none task.board n solved, omega (arith, le))
+    go (Some most) le = (0, solved_need_none problem.board n solved, omega (arith, le))
 
 -- no fewer pushes than there are layers that were searched lead to a solved position
-pub solved_bound : (task : Task) (layers : List (List Scene)) → IsLevel task.board → AreSearched task layers → (ps : List Push) (n : Scene) →
-    Reaches task.board ps n → IsSolved task.board n → KeepsCap task.cap (length ps) → length layers ≤ length ps
-solved_bound task layers level searched ps n reach solved kept = elim (cases_lt (length ps) (length layers)) [
-  | inl lt ↦ (let w = found (level_laws task level) (λ j. get_or layers j []) (length ps)
+pub solved_bound : (problem : Problem) (layers : List (List Scene)) → IsLevel problem.board → AreSearched problem layers → (ps : List Push) (n : Scene) →
+    Reaches problem.board ps n → IsSolved problem.board n → KeepsCap problem.cap (length ps) → length layers ≤ length ps
+solved_bound problem layers level searched ps n reach solved kept = elim (cases_lt (length ps) (length layers)) [
+  | inl lt ↦ (let w = found (level_laws problem level) (λ j. get_or layers j []) (length ps)
       (λ j le. searched.are j (get_or layers j []) (read_at layers j (omega arith))) (length ps) ps n (omega arith) (omega arith) reach
-      (solved_admitted task (length ps) n solved kept) in
+      (solved_admitted problem (length ps) n solved kept) in
       absurd (searched.unsolved w.0 (get_or layers w.0 []) (read_at layers w.0 (omega (arith, w.1))) w.2.0 n w.2.1 solved))
   | inr ge ↦ omega arith
 ]
 
 -- so no solution has fewer
-pub searched_bound : (task : Task) (layers : List (List Scene)) → IsLevel task.board → AreSearched task layers → (ds : List Dir) (ps : List Push) →
-    IsSolutionOf task ds ps → length layers ≤ length ps
-searched_bound task layers level searched ds ps (solution, kept) =
-    let r = solution_reaches task.board level ds ps solution in
-    solved_bound task layers level searched ps r.0 r.1 r.2 kept
+pub searched_bound : (problem : Problem) (layers : List (List Scene)) → IsLevel problem.board → AreSearched problem layers → (ds : List Dir) (ps : List Push) →
+    IsSolutionOf problem ds ps → length layers ≤ length ps
+searched_bound problem layers level searched ds ps (solution, kept) =
+    let r = solution_reaches problem.board level ds ps solution in
+    solved_bound problem layers level searched ps r.0 r.1 r.2 kept
 
 -- ---- solved
 
 -- the lead of the first solved position of the first layer that has one comes after no push list that leads to a
 -- solved position
-pub first_lead_least : (task : Task) (layers : List (List Scene)) (xs : List Scene) (rank : ℕ) (n : Scene) (ps : List Push) →
-    IsLevel task.board → AreSearched task layers → IsLayerOf task (length layers) xs → IsFirstSolved task.board xs rank → slice_get xs rank ≡ Some n →
-    IsLeadOf task.board n ps → length ps ≡ length layers →
-    (qs : List Push) (m : Scene) → Reaches task.board qs m → IsSolved task.board m → is_gt (shortlex push_cmp ps qs) ≡ false
-first_lead_least task layers xs rank n ps level searched layer first at_rank lead long qs m reach solved = elim (cases_lt (length layers) (length qs)) [
+pub first_lead_least : (problem : Problem) (layers : List (List Scene)) (xs : List Scene) (rank : ℕ) (n : Scene) (ps : List Push) →
+    IsLevel problem.board → AreSearched problem layers → IsLayerOf problem (length layers) xs → IsFirstSolved problem.board xs rank → slice_get xs rank ≡ Some n →
+    IsLeadOf problem.board n ps → length ps ≡ length layers →
+    (qs : List Push) (m : Scene) → Reaches problem.board qs m → IsSolved problem.board m → is_gt (shortlex push_cmp ps qs) ≡ false
+first_lead_least problem layers xs rank n ps level searched layer first at_rank lead long qs m reach solved = elim (cases_lt (length layers) (length qs)) [
   | inl lt ↦ shortlex_shorter push_cmp ps qs (omega arith)
   | inr ge ↦ (let same : length qs ≡ length layers = omega (
     arith,
     ge,
-    solved_bound task layers level searched qs m reach solved (fewer (length qs) (omega (arith, ge))),
-  ) in elim (layer.whole qs m reach same (solved_admitted task (length layers) m solved kept)) [
+    solved_bound problem layers level searched qs m reach solved (fewer (length qs) (omega (arith, ge))),
+  ) in elim (layer.whole qs m reach same (solved_admitted problem (length layers) m solved kept)) [
     | inl i ↦ within i.0 i.1
-    | inr w ↦ absurd (omega (arith, w.2, solved_bound task layers level searched w.0 m w.1 solved (fewer (length w.0) (omega (arith, w.2)))))
+    | inr w ↦ absurd (omega (arith, w.2, solved_bound problem layers level searched w.0 m w.1 solved (fewer (length w.0) (omega (arith, w.2)))))
   ])
 ]
   where
     -- the position at the rank is admitted, so as many pushes as there are layers are within the cap, and fewer are
-    kept : KeepsCap task.cap (length layers)
-    kept = admitted_kept task (length layers) n (layer.leads rank n at_rank).0
+    kept : KeepsCap problem.cap (length layers)
+    kept = admitted_kept problem (length layers) n (layer.leads rank n at_rank).0
 
-    fewer : (j : ℕ) → j ≤ length layers → KeepsCap task.cap j
-    fewer j le = fewer_kept task.cap j (length layers) le kept
+    fewer : (j : ℕ) → j ≤ length layers → KeepsCap problem.cap j
+    fewer j le = fewer_kept problem.cap j (length layers) le kept
 
     within : (r : ℕ) → slice_get xs r ≡ Some m → is_gt (shortlex push_cmp ps qs) ≡ false
     within r at_r = elim (cases_lt rank r) [
@@ -166,7 +166,7 @@ first_lead_least task layers xs rank n ps level searched layer first at_rank lea
         | inl lt ↦ absurd (first.first r m lt at_r solved)
         | inr ge ↦ (let e : r ≡ rank = omega arith in
             let same : m ≡ n = same_Some m n (sym at_r ∙ ap (slice_get xs) e ∙ at_rank) in
-            lead.least qs (subst (Reaches task.board qs) same reach))
+            lead.least qs (subst (Reaches problem.board qs) same reach))
       ]
     ]
 
@@ -177,10 +177,10 @@ then_tied Equal b e f = f refl
 then_tied Greater b e f = e
 
 -- the letters for the first solved position write the least solution
-pub writes_least : (task : Task) (layers : List (List Scene)) (xs : List Scene) (rank : ℕ) (n : Scene) (letters : List Letter) →
-    IsLevel task.board → AreSearched task layers → IsLayerOf task (length layers) xs → IsFirstSolved task.board xs rank → slice_get xs rank ≡ Some n →
-    WritesLead task.board n letters → WritesLeastSolution task.board letters (length layers)
-writes_least task layers xs rank n letters level searched layer first at_rank writes = record {
+pub writes_least : (problem : Problem) (layers : List (List Scene)) (xs : List Scene) (rank : ℕ) (n : Scene) (letters : List Letter) →
+    IsLevel problem.board → AreSearched problem layers → IsLayerOf problem (length layers) xs → IsFirstSolved problem.board xs rank → slice_get xs rank ≡ Some n →
+    WritesLead problem.board n letters → WritesLeastSolution problem.board letters (length layers)
+writes_least problem layers xs rank n letters level searched layer first at_rank writes = record {
   list = writes.pushes;
   end = writes.end;
   play = writes.play;
@@ -191,63 +191,63 @@ writes_least task layers xs rank n letters level searched layer first at_rank wr
 }
   where
     long : length writes.pushes ≡ length layers
-    long = let l = (layer.leads rank n at_rank).1 in ap length (lead_unique (level_laws task level) n writes.pushes l.0 writes.lead l.1) ∙ l.2
+    long = let l = (layer.leads rank n at_rank).1 in ap length (lead_unique (level_laws problem level) n writes.pushes l.0 writes.lead l.1) ∙ l.2
 
     -- the play of the lead and that of the letters end with the same boxes
     same_end : n.boxes ≡ writes.end.boxes
     same_end = let reach = writes.lead.reached in reach.3.boxes ∙ (play_boxes reach.2 ∙ sym (play_boxes writes.play))
 
-    solved : IsSolved task.board writes.end
-    solved = solved_boxes task.board n writes.end same_end (subst (IsSolved task.board) (same_Some first.place n (sym first.there ∙ at_rank)) first.solved)
+    solved : IsSolved problem.board writes.end
+    solved = solved_boxes problem.board n writes.end same_end (subst (IsSolved problem.board) (same_Some first.place n (sym first.there ∙ at_rank)) first.solved)
 
-    no_later : (es : List Dir) (qs : List Push) → IsSolution task.board es qs → is_gt (solution_cmp (dirs_of letters) writes.pushes es qs) ≡ false
+    no_later : (es : List Dir) (qs : List Push) → IsSolution problem.board es qs → is_gt (solution_cmp (dirs_of letters) writes.pushes es qs) ≡ false
     no_later es qs solution =
-        let r = solution_reaches task.board level es qs solution in
+        let r = solution_reaches problem.board level es qs solution in
         then_tied (shortlex push_cmp writes.pushes qs) (shortlex dir_cmp (dirs_of letters) es)
-        (first_lead_least task layers xs rank n writes.pushes level searched layer first at_rank writes.lead long qs r.0 r.1 r.2)
+        (first_lead_least problem layers xs rank n writes.pushes level searched layer first at_rank writes.lead long qs r.0 r.1 r.2)
         (λ tied. (let same = shortlex_exact push_cmp_exact writes.pushes qs tied in
-        writes.least es solution.0 (subst (λ ps. Play task.board Any (start task.board) es ps solution.0) (sym same) solution.1)))
+        writes.least es solution.0 (subst (λ ps. Play problem.board Any (start problem.board) es ps solution.0) (sym same) solution.1)))
 
 -- the layers that were searched and the next one have their positions together
-pub have_total : (task : Task) (layers : List (List Scene)) (xs : List Scene) → AreLayersOf task layers → IsLayerOf task (length layers) xs →
-    HaveTotal task (suc (length layers)) (total layers + length xs)
-have_total task layers xs are layer = (
+pub have_total : (problem : Problem) (layers : List (List Scene)) (xs : List Scene) → AreLayersOf problem layers → IsLayerOf problem (length layers) xs →
+    HaveTotal problem (suc (length layers)) (total layers + length xs)
+have_total problem layers xs are layer = (
   layers ++ xs ∷ [],
-  layers_more task layers xs are layer,
+  layers_more problem layers xs are layer,
   omega (arith, length-append layers (xs ∷ [])),
   total-push layers xs,
 )
 
 -- the level is solved by the first solved position of the next layer
-pub solved_answer : (task : Task) (limit : ℕ) (layers : List (List Scene)) (xs : List Scene) (rank : ℕ) (n : Scene) (letters : List Letter) →
-    IsLevel task.board → AreSearched task layers → IsLayerOf task (length layers) xs → IsFirstSolved task.board xs rank → slice_get xs rank ≡ Some n →
-    WritesLead task.board n letters → total layers + length xs ≤ limit → IsAnswer task limit (Solved letters (length layers) (total layers + length xs))
-solved_answer task limit layers xs rank n letters level searched layer first at_rank writes few = (
-  writes_least task layers xs rank n letters level searched layer first at_rank writes,
-  have_total task layers xs searched.are layer,
+pub solved_answer : (problem : Problem) (limit : ℕ) (layers : List (List Scene)) (xs : List Scene) (rank : ℕ) (n : Scene) (letters : List Letter) →
+    IsLevel problem.board → AreSearched problem layers → IsLayerOf problem (length layers) xs → IsFirstSolved problem.board xs rank → slice_get xs rank ≡ Some n →
+    WritesLead problem.board n letters → total layers + length xs ≤ limit → IsAnswer problem limit (Solved letters (length layers) (total layers + length xs))
+solved_answer problem limit layers xs rank n letters level searched layer first at_rank writes few = (
+  writes_least problem layers xs rank n letters level searched layer first at_rank writes,
+  have_total problem layers xs searched.are layer,
   few,
-  admitted_kept task (length layers) n (layer.leads rank n at_rank).0,
+  admitted_kept problem (length layers) n (layer.leads rank n at_rank).0,
 )
 
 -- ---- unsolvable
 
 -- where layer k is empty, what is reached and admitted is reached by fewer than k pushes
-module _ (task : Task) (level : IsLevel task.board) (k : ℕ) (empty : IsLayerOf task k []) where
-  sooner_here : (ps : List Push) (n : Scene) → Reaches task.board ps n → length ps ≤ k → Admits task k n →
-      (qs : List Push) × Reaches task.board qs n × (length qs < k)
+module _ (problem : Problem) (level : IsLevel problem.board) (k : ℕ) (empty : IsLayerOf problem k []) where
+  sooner_here : (ps : List Push) (n : Scene) → Reaches problem.board ps n → length ps ≤ k → Admits problem k n →
+      (qs : List Push) × Reaches problem.board qs n × (length qs < k)
   sooner_here ps n reach short adm = elim (cases_lt (length ps) k) [
     | inl lt ↦ (ps, reach, lt)
     | inr ge ↦ elim (empty.whole ps n reach (omega arith) adm) [ inl i ↦ absurd (none-some n i.1) | inr w ↦ w ]
   ]
 
-  sooner_by : (b : ℕ) (ps : List Push) (n : Scene) → Reaches task.board ps n → length ps ≡ b → Admits task b n →
-      (qs : List Push) × Reaches task.board qs n × (length qs < k)
+  sooner_by : (b : ℕ) (ps : List Push) (n : Scene) → Reaches problem.board ps n → length ps ≡ b → Admits problem b n →
+      (qs : List Push) × Reaches problem.board qs n × (length qs < k)
   sooner_by zero ps n reach long adm = elim (cases_lt zero k) [
     | inl lt ↦ (ps, reach, omega arith)
-    | inr ge ↦ sooner_here ps n reach (omega arith) ((level_laws task level).earlier k zero n (omega arith) adm)
+    | inr ge ↦ sooner_here ps n reach (omega arith) ((level_laws problem level).earlier k zero n (omega arith) adm)
   ]
   sooner_by (suc b) ps n reach long adm =
-      let laws = level_laws task level in
+      let laws = level_laws problem level in
       let cut = laws.split ps n b reach long in
       let early = sooner_by b cut.0 cut.2 cut.4 (omega (arith, ap length cut.3, length-append cut.0 (cut.1 ∷ [])))
       (laws.closed b cut.0 cut.2 cut.1 n cut.4 cut.5 adm) in elim (cases_lt (suc b) k) [
@@ -256,32 +256,32 @@ module _ (task : Task) (level : IsLevel task.board) (k : ℕ) (empty : IsLayerOf
             (omega (arith, early.2, length-append early.0 (cut.1 ∷ []))) (laws.earlier k (suc b) n (omega arith) adm)
       ]
 
-  pub sooner : (ps : List Push) (n : Scene) → Reaches task.board ps n → Admits task (length ps) n → (qs : List Push) × Reaches task.board qs n × (length qs < k)
+  pub sooner : (ps : List Push) (n : Scene) → Reaches problem.board ps n → Admits problem (length ps) n → (qs : List Push) × Reaches problem.board qs n × (length qs < k)
   sooner ps n reach adm = sooner_by (length ps) ps n reach refl adm
 
 -- where the next layer is empty no play solves the level within the cap
-pub none_answer : (task : Task) (limit : ℕ) (layers : List (List Scene)) → IsLevel task.board → AreSearched task layers → IsLayerOf task (length layers) [] →
-    total layers ≤ limit → HasNone task limit (total layers)
-none_answer task limit layers level searched empty few = (none, all, few)
+pub none_answer : (problem : Problem) (limit : ℕ) (layers : List (List Scene)) → IsLevel problem.board → AreSearched problem layers → IsLayerOf problem (length layers) [] →
+    total layers ≤ limit → HasNone problem limit (total layers)
+none_answer problem limit layers level searched empty few = (none, all, few)
   where
-    none : (ds : List Dir) (ps : List Push) → ¬ (IsSolutionOf task ds ps)
+    none : (ds : List Dir) (ps : List Push) → ¬ (IsSolutionOf problem ds ps)
     none ds ps (solution, kept) =
-        let r = solution_reaches task.board level ds ps solution in
-        let short = solved_bound task layers level searched ps r.0 r.1 r.2 kept in
-        let w = sooner task level (length layers) empty ps r.0 r.1 (solved_admitted task (length ps) r.0 r.2 kept) in
+        let r = solution_reaches problem.board level ds ps solution in
+        let short = solved_bound problem layers level searched ps r.0 r.1 r.2 kept in
+        let w = sooner problem level (length layers) empty ps r.0 r.1 (solved_admitted problem (length ps) r.0 r.2 kept) in
         omega (
           arith,
           w.2,
-          solved_bound task layers level searched w.0 r.0 w.1 r.2 (fewer_kept task.cap (length w.0) (length ps) (omega (arith, w.2, short)) kept),
+          solved_bound problem layers level searched w.0 r.0 w.1 r.2 (fewer_kept problem.cap (length w.0) (length ps) (omega (arith, w.2, short)) kept),
         )
 
     last : length (layers ++ [] ∷ []) - 1 ≡ length layers
     last = omega (arith, length-append layers ([] ∷ []))
 
-    all : HasInAll task (total layers)
+    all : HasInAll problem (total layers)
     all = record {
       layers = layers ++ [] ∷ [];
-      are = layers_more task layers [] searched.are empty;
+      are = layers_more problem layers [] searched.are empty;
       last = ap (slice_get (layers ++ [] ∷ [])) last ∙ at_seam layers [];
       first = λ j at_j. elim (at-push layers [] j [] at_j) [
         | inl old ↦ absurd (omega (arith, searched.filled j [] old))
@@ -293,21 +293,21 @@ none_answer task limit layers level searched empty few = (none, all, few)
 -- ---- the limit
 
 -- a position of layer k is k pushes away
-pub layer_distance : (task : Task) → IsLevel task.board → (k : ℕ) (xs : List Scene) → IsLayerOf task k xs → (n : Scene) → IsIn xs n → IsAtDistance task n k
-layer_distance task level k xs layer n i =
+pub layer_distance : (problem : Problem) → IsLevel problem.board → (k : ℕ) (xs : List Scene) → IsLayerOf problem k xs → (n : Scene) → IsIn xs n → IsAtDistance problem n k
+layer_distance problem level k xs layer n i =
     let there = layer.leads i.0 n i.1 in
     let l = there.1 in
-    ((l.0, l.1.reached, l.2), λ qs reach. omega (arith, l.2, lead-length (level_laws task level) n l.0 qs l.1 reach), there.0)
+    ((l.0, l.1.reached, l.2), λ qs reach. omega (arith, l.2, lead-length (level_laws problem level) n l.0 qs l.1 reach), there.0)
 
 -- where the positions of the next layer pass the limit, the answer is the limit
-pub limit_answer : (task : Task) (limit : ℕ) (layers : List (List Scene)) (xs : List Scene) → IsLevel task.board → AreSearched task layers →
-    IsLayerOf task (length layers) xs → limit < total layers + length xs → IsAnswer task limit Limit
-limit_answer task limit layers xs level searched layer passed = record {
+pub limit_answer : (problem : Problem) (limit : ℕ) (layers : List (List Scene)) (xs : List Scene) → IsLevel problem.board → AreSearched problem layers →
+    IsLayerOf problem (length layers) xs → limit < total layers + length xs → IsAnswer problem limit Limit
+limit_answer problem limit layers xs level searched layer passed = record {
   layers = layers;
   are = searched.are;
   more = xs;
-  distinct = place_unique (level_laws task level) (length layers) xs layer;
-  next = layer_distance task level (length layers) xs layer;
+  distinct = place_unique (level_laws problem level) (length layers) xs layer;
+  next = layer_distance problem level (length layers) xs layer;
   passed = passed;
-  unsolved = searched_bound task layers level searched;
+  unsolved = searched_bound problem layers level searched;
 }

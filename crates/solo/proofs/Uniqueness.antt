@@ -13,7 +13,7 @@ use Rattle.grid.specs.Plays.{Play, stay, walk, push, dirs_of, letters_of}
 use Rattle.grid.proofs.lemmas.Orders.{least_solution_same}
 use Rattle.grid.proofs.lemmas.Steps.{walk_same, push_same, not_both}
 use Rattle.successors.specs.Layered.{IsIn}
-use Rattle.successors.specs.Tasks.{Task}
+use Rattle.successors.specs.Problems.{Problem}
 use Rattle.successors.specs.Capping.{Admits}
 use Rattle.successors.specs.Reaching.{IsLayerOf, AreLayersOf, total}
 use Rattle.successors.specs.Distances.{AreDistinct, IsAtDistance}
@@ -65,36 +65,36 @@ writing_same board xs ys k l a b =
 -- ---- the first layers
 
 -- layers that are as many have as many positions
-pub totals_same : (task : Task) → IsLevel task.board → (m n s t : ℕ) → HaveTotal task m s → HaveTotal task n t → m ≡ n → s ≡ t
-totals_same task level m n s t a b long =
-    sym a.3 ∙ (ap total (layers_same task level a.0 b.0 a.1 b.1 (a.2 ∙ (long ∙ sym b.2))) ∙ b.3)
+pub totals_same : (problem : Problem) → IsLevel problem.board → (m n s t : ℕ) → HaveTotal problem m s → HaveTotal problem n t → m ≡ n → s ≡ t
+totals_same problem level m n s t a b long =
+    sym a.3 ∙ (ap total (layers_same problem level a.0 b.0 a.1 b.1 (a.2 ∙ (long ∙ sym b.2))) ∙ b.3)
 
 -- some of the first layers are the first layers
-front_are : (task : Task) (n : ℕ) (xss : List (List Scene)) → AreLayersOf task xss → AreLayersOf task (take n xss)
-front_are task n xss are j xs at_j = are j xs (take_at xss n j xs at_j).0
+front_are : (problem : Problem) (n : ℕ) (xss : List (List Scene)) → AreLayersOf problem xss → AreLayersOf problem (take n xss)
+front_are problem n xss are j xs at_j = are j xs (take_at xss n j xs at_j).0
 
 -- fewer of the first layers are the first of them
-front_same : (task : Task) → IsLevel task.board → (xss yss : List (List Scene)) → AreLayersOf task xss → AreLayersOf task yss → length xss ≤ length yss →
+front_same : (problem : Problem) → IsLevel problem.board → (xss yss : List (List Scene)) → AreLayersOf problem xss → AreLayersOf problem yss → length xss ≤ length yss →
     take (length xss) yss ≡ xss
-front_same task level xss yss a b short = layers_same task level (take (length xss) yss) xss (front_are task (length xss) yss b) a
+front_same problem level xss yss a b short = layers_same problem level (take (length xss) yss) xss (front_are problem (length xss) yss b) a
     (length-take-le (length xss) yss short)
 
 -- what is k pushes away is in layer k
-distant_in : (task : Task) (k : ℕ) (xs : List Scene) → IsLayerOf task k xs → (n : Scene) → IsAtDistance task n k → IsIn xs n
-distant_in task k xs layer n far = elim (layer.whole far.0.0 n far.0.1 far.0.2 far.2) [
+distant_in : (problem : Problem) (k : ℕ) (xs : List Scene) → IsLayerOf problem k xs → (n : Scene) → IsAtDistance problem n k → IsIn xs n
+distant_in problem k xs layer n far = elim (layer.whole far.0.0 n far.0.1 far.0.2 far.2) [
   | inl i ↦ i
   | inr w ↦ absurd (omega (arith, w.2, far.1 w.0 w.1))
 ]
 
 -- the first layers and distinct positions of the next one are no more than more layers have
-pub next_within : (task : Task) → IsLevel task.board → (layers : List (List Scene)) (more : List Scene) (yss : List (List Scene)) →
-    AreLayersOf task layers → AreDistinct more → ((n : Scene) → IsIn more n → IsAtDistance task n (length layers)) → AreLayersOf task yss →
+pub next_within : (problem : Problem) → IsLevel problem.board → (layers : List (List Scene)) (more : List Scene) (yss : List (List Scene)) →
+    AreLayersOf problem layers → AreDistinct more → ((n : Scene) → IsIn more n → IsAtDistance problem n (length layers)) → AreLayersOf problem yss →
     length layers < length yss → total layers + length more ≤ total yss
-next_within task level layers more yss are distinct next b lt =
+next_within problem level layers more yss are distinct next b lt =
     omega (
       arith,
-      ap total (front_same task level layers yss are b (omega arith)),
-      length-distinct more (get_or yss (length layers) []) distinct (λ n i. distant_in task (length layers) (get_or yss (length layers) [])
+      ap total (front_same problem level layers yss are b (omega arith)),
+      length-distinct more (get_or yss (length layers) []) distinct (λ n i. distant_in problem (length layers) (get_or yss (length layers) [])
           (b (length layers) (get_or yss (length layers) []) (read_at yss (length layers) lt)) n (next n i)),
       total-take_more yss (length layers) lt,
       total-take (suc (length layers)) yss,
@@ -103,113 +103,113 @@ next_within task level layers more yss are distinct next b lt =
 -- ---- all layers
 
 -- the number of the first empty layer
-abbrev empty_layer : {task : Task} {positions : ℕ} → HasInAll task positions → ℕ
+abbrev empty_layer : {problem : Problem} {positions : ℕ} → HasInAll problem positions → ℕ
 empty_layer all = length all.layers - 1
 
-some_layers : {task : Task} {positions : ℕ} (all : HasInAll task positions) → empty_layer all < length all.layers
+some_layers : {problem : Problem} {positions : ℕ} (all : HasInAll problem positions) → empty_layer all < length all.layers
 some_layers all = slice_get_within all.layers (empty_layer all) [] all.last
 
 -- no list of all layers is longer than another
-in_all_short : (task : Task) → IsLevel task.board → (s t : ℕ) (a : HasInAll task s) (b : HasInAll task t) → length a.layers ≤ length b.layers
-in_all_short task level s t a b = elim (cases_lt (length b.layers) (length a.layers)) [
+in_all_short : (problem : Problem) → IsLevel problem.board → (s t : ℕ) (a : HasInAll problem s) (b : HasInAll problem t) → length a.layers ≤ length b.layers
+in_all_short problem level s t a b = elim (cases_lt (length b.layers) (length a.layers)) [
   | inl lt ↦ (let k = empty_layer b in
       let here = read_at a.layers k (omega (arith, some_layers b)) in
-      let same = layer_unique (level_laws task level) k (get_or a.layers k []) [] (a.are k (get_or a.layers k []) here) (b.are k [] b.last) in
+      let same = layer_unique (level_laws problem level) k (get_or a.layers k []) [] (a.are k (get_or a.layers k []) here) (b.are k [] b.last) in
       absurd (omega (arith, a.first k (here ∙ ap (λ xs. Some xs) same), some_layers a, some_layers b)))
   | inr ge ↦ omega arith
 ]
 
-pub in_all_same : (task : Task) → IsLevel task.board → (s t : ℕ) → HasInAll task s → HasInAll task t → s ≡ t
-in_all_same task level s t a b =
-    sym a.total ∙ (ap total (layers_same task level a.layers b.layers a.are b.are
-    (omega (arith, in_all_short task level s t a b, in_all_short task level t s b a))) ∙ b.total)
+pub in_all_same : (problem : Problem) → IsLevel problem.board → (s t : ℕ) → HasInAll problem s → HasInAll problem t → s ≡ t
+in_all_same problem level s t a b =
+    sym a.total ∙ (ap total (layers_same problem level a.layers b.layers a.are b.are
+    (omega (arith, in_all_short problem level s t a b, in_all_short problem level t s b a))) ∙ b.total)
 
 -- nothing is in a layer after an empty one
-pub past_empty : (task : Task) (empty later : ℕ) (places : List Scene) → IsLevel task.board → IsLayerOf task empty [] → empty ≤ later →
-    IsLayerOf task later places → places ≡ []
-past_empty task empty later [] level none past layer = refl
-past_empty task empty later (n ∷ places) level none past layer =
+pub past_empty : (problem : Problem) (empty later : ℕ) (places : List Scene) → IsLevel problem.board → IsLayerOf problem empty [] → empty ≤ later →
+    IsLayerOf problem later places → places ≡ []
+past_empty problem empty later [] level none past layer = refl
+past_empty problem empty later (n ∷ places) level none past layer =
     let there = layer.leads zero n refl in
     let l = there.1 in
-    let w = sooner task level empty none l.0 n l.1.reached (subst (λ k. Admits task k n) (sym l.2) there.0) in
-    absurd (omega (arith, w.2, l.2, lead-length (level_laws task level) n l.0 w.0 l.1 w.1))
+    let w = sooner problem level empty none l.0 n l.1.reached (subst (λ k. Admits problem k n) (sym l.2) there.0) in
+    absurd (omega (arith, w.2, l.2, lead-length (level_laws problem level) n l.0 w.0 l.1 w.1))
 
 -- nor is anything that many pushes away
-none_distant : (task : Task) → IsLevel task.board → (s : ℕ) (all : HasInAll task s) (k : ℕ) (more : List Scene) → length all.layers ≤ k →
-    ((n : Scene) → IsIn more n → IsAtDistance task n k) → length more ≡ 0
-none_distant task level s all k [] past next = refl
-none_distant task level s all k (n ∷ more) past next =
+none_distant : (problem : Problem) → IsLevel problem.board → (s : ℕ) (all : HasInAll problem s) (k : ℕ) (more : List Scene) → length all.layers ≤ k →
+    ((n : Scene) → IsIn more n → IsAtDistance problem n k) → length more ≡ 0
+none_distant problem level s all k [] past next = refl
+none_distant problem level s all k (n ∷ more) past next =
     let far = next n (zero, refl) in
-    let w = sooner task level (empty_layer all) (all.are (empty_layer all) [] all.last) far.0.0 n far.0.1 (subst (λ j. Admits task j n) (sym far.0.2) far.2) in
+    let w = sooner problem level (empty_layer all) (all.are (empty_layer all) [] all.last) far.0.0 n far.0.1 (subst (λ j. Admits problem j n) (sym far.0.2) far.2) in
     absurd (omega (arith, w.2, some_layers all, far.1 w.0 w.1))
 
 -- the first layers and distinct positions of the next one are no more than all positions
-pub within_all : (task : Task) → IsLevel task.board → (s : ℕ) → HasInAll task s → (limit : ℕ) (p : PassesLimit task limit) → total p.layers + length p.more ≤ s
-within_all task level s all limit p = elim (cases_lt (length p.layers) (length all.layers)) [
-  | inl lt ↦ omega (arith, all.total, next_within task level p.layers p.more all.layers p.are p.distinct p.next all.are lt)
+pub within_all : (problem : Problem) → IsLevel problem.board → (s : ℕ) → HasInAll problem s → (limit : ℕ) (p : PassesLimit problem limit) → total p.layers + length p.more ≤ s
+within_all problem level s all limit p = elim (cases_lt (length p.layers) (length all.layers)) [
+  | inl lt ↦ omega (arith, all.total, next_within problem level p.layers p.more all.layers p.are p.distinct p.next all.are lt)
   | inr ge ↦ omega (
     arith,
     all.total,
-    none_distant task level s all (length p.layers) p.more (omega arith) p.next,
-    total-front (length all.layers) p.layers (λ j xs le at_j. ap length (past_empty task (empty_layer all) j xs level (all.are (empty_layer all) [] all.last)
+    none_distant problem level s all (length p.layers) p.more (omega arith) p.next,
+    total-front (length all.layers) p.layers (λ j xs le at_j. ap length (past_empty problem (empty_layer all) j xs level (all.are (empty_layer all) [] all.last)
         (omega (arith, le)) (p.are j xs at_j))),
-    ap total (front_same task level all.layers p.layers all.are p.are (omega arith)),
+    ap total (front_same problem level all.layers p.layers all.are p.are (omega arith)),
   )
 ]
 
 -- ---- answers
 
 -- a solution and a limit that is passed: the positions up to the solution are more than the limit
-pub solved_passes : (task : Task) → IsLevel task.board → (limit pushes positions : ℕ) (ds : List Dir) (ps : List Push) → IsSolutionOf task ds ps →
-    length ps ≡ pushes → HaveTotal task (suc pushes) positions → PassesLimit task limit → limit < positions
-solved_passes task level limit pushes positions ds ps solution count have p =
+pub solved_passes : (problem : Problem) → IsLevel problem.board → (limit pushes positions : ℕ) (ds : List Dir) (ps : List Push) → IsSolutionOf problem ds ps →
+    length ps ≡ pushes → HaveTotal problem (suc pushes) positions → PassesLimit problem limit → limit < positions
+solved_passes problem level limit pushes positions ds ps solution count have p =
     omega (
       arith,
       have.3,
       p.passed,
-      next_within task level p.layers p.more have.0 p.are p.distinct p.next have.1 (omega (arith, have.2, count, p.unsolved ds ps solution)),
+      next_within problem level p.layers p.more have.0 p.are p.distinct p.next have.1 (omega (arith, have.2, count, p.unsolved ds ps solution)),
     )
 
 -- all positions are more than a limit that is passed
-pub unsolvable_passes : (task : Task) → IsLevel task.board → (limit positions : ℕ) → HasInAll task positions → PassesLimit task limit → limit < positions
-unsolvable_passes task level limit positions all p = omega (arith, p.passed, within_all task level positions all limit p)
+pub unsolvable_passes : (problem : Problem) → IsLevel problem.board → (limit positions : ℕ) → HasInAll problem positions → PassesLimit problem limit → limit < positions
+unsolvable_passes problem level limit positions all p = omega (arith, p.passed, within_all problem level positions all limit p)
 
 -- what writes the least solution solves the level within the cap, where its pushes are
-solves : (task : Task) (letters : List Letter) (k : ℕ) (writes : WritesLeastSolution task.board letters k) → KeepsCap task.cap k →
-    IsSolutionOf task (dirs_of letters) writes.list
-solves task letters k writes kept = (writes.least.0, subst (KeepsCap task.cap) (sym writes.count) kept)
+solves : (problem : Problem) (letters : List Letter) (k : ℕ) (writes : WritesLeastSolution problem.board letters k) → KeepsCap problem.cap k →
+    IsSolutionOf problem (dirs_of letters) writes.list
+solves problem letters k writes kept = (writes.least.0, subst (KeepsCap problem.cap) (sym writes.count) kept)
 
 -- it excludes that there is no solution
-solved_or_none : (task : Task) (limit : ℕ) (letters : List Letter) (k t s : ℕ) → IsAnswer task limit (Solved letters k t) → HasNone task limit s → ⊥
-solved_or_none task limit letters k t s (writes, have, few, kept) none = none.0 (dirs_of letters) writes.list (solves task letters k writes kept)
+solved_or_none : (problem : Problem) (limit : ℕ) (letters : List Letter) (k t s : ℕ) → IsAnswer problem limit (Solved letters k t) → HasNone problem limit s → ⊥
+solved_or_none problem limit letters k t s (writes, have, few, kept) none = none.0 (dirs_of letters) writes.list (solves problem letters k writes kept)
 
 -- a solution within the limit and a limit that is passed exclude each other
-solved_or_limit : (task : Task) → IsLevel task.board → (limit : ℕ) (letters : List Letter) (k t : ℕ) → IsAnswer task limit (Solved letters k t) →
-    PassesLimit task limit → ⊥
-solved_or_limit task level limit letters k t (writes, have, few, kept) p =
-    omega (arith, few, solved_passes task level limit k t (dirs_of letters) writes.list (solves task letters k writes kept) writes.count have p)
+solved_or_limit : (problem : Problem) → IsLevel problem.board → (limit : ℕ) (letters : List Letter) (k t : ℕ) → IsAnswer problem limit (Solved letters k t) →
+    PassesLimit problem limit → ⊥
+solved_or_limit problem level limit letters k t (writes, have, few, kept) p =
+    omega (arith, few, solved_passes problem level limit k t (dirs_of letters) writes.list (solves problem letters k writes kept) writes.count have p)
 
-none_or_limit : (task : Task) → IsLevel task.board → (limit t : ℕ) → HasNone task limit t → PassesLimit task limit → ⊥
-none_or_limit task level limit t (none, all, few) p = omega (arith, few, unsolvable_passes task level limit t all p)
+none_or_limit : (problem : Problem) → IsLevel problem.board → (limit t : ℕ) → HasNone problem limit t → PassesLimit problem limit → ⊥
+none_or_limit problem level limit t (none, all, few) p = omega (arith, few, unsolvable_passes problem level limit t all p)
 
 -- two answers are the same
-pub answer_same : (task : Task) (limit : ℕ) (a b : Answer) → IsLevel task.board → IsAnswer task limit a → IsAnswer task limit b → a ≡ b
-answer_same task limit (Solved xs k s) (Solved ys l t) level (writes, have, few, kept) (writes', have', few', kept') =
-    let same = writing_same task.board xs ys k l writes writes' in
-    let positions = totals_same task level (suc k) (suc l) s t have have' (ap suc same.1) in
+pub answer_same : (problem : Problem) (limit : ℕ) (a b : Answer) → IsLevel problem.board → IsAnswer problem limit a → IsAnswer problem limit b → a ≡ b
+answer_same problem limit (Solved xs k s) (Solved ys l t) level (writes, have, few, kept) (writes', have', few', kept') =
+    let same = writing_same problem.board xs ys k l writes writes' in
+    let positions = totals_same problem level (suc k) (suc l) s t have have' (ap suc same.1) in
     λ i. Solved (same.0 i) (same.1 i) (positions i)
-answer_same task limit (Solved xs k s) (Unsolvable t) level a b = absurd (solved_or_none task limit xs k s t a b.1)
-answer_same task limit (Solved xs k s) (NoneWithin t) level a b = absurd (solved_or_none task limit xs k s t a b.1)
-answer_same task limit (Solved xs k s) Limit level a p = absurd (solved_or_limit task level limit xs k s a p)
-answer_same task limit (Unsolvable s) (Solved ys l t) level a b = absurd (solved_or_none task limit ys l t s b a.1)
-answer_same task limit (Unsolvable s) (Unsolvable t) level a b = ap (λ n. Unsolvable n) (in_all_same task level s t a.1.1 b.1.1)
-answer_same task limit (Unsolvable s) (NoneWithin t) level a b = absurd (b.0 a.0)
-answer_same task limit (Unsolvable s) Limit level a p = absurd (none_or_limit task level limit s a.1 p)
-answer_same task limit (NoneWithin s) (Solved ys l t) level a b = absurd (solved_or_none task limit ys l t s b a.1)
-answer_same task limit (NoneWithin s) (Unsolvable t) level a b = absurd (a.0 b.0)
-answer_same task limit (NoneWithin s) (NoneWithin t) level a b = ap (λ n. NoneWithin n) (in_all_same task level s t a.1.1 b.1.1)
-answer_same task limit (NoneWithin s) Limit level a p = absurd (none_or_limit task level limit s a.1 p)
-answer_same task limit Limit (Solved ys l t) level p b = absurd (solved_or_limit task level limit ys l t b p)
-answer_same task limit Limit (Unsolvable t) level p b = absurd (none_or_limit task level limit t b.1 p)
-answer_same task limit Limit (NoneWithin t) level p b = absurd (none_or_limit task level limit t b.1 p)
-answer_same task limit Limit Limit level p q = refl
+answer_same problem limit (Solved xs k s) (Unsolvable t) level a b = absurd (solved_or_none problem limit xs k s t a b.1)
+answer_same problem limit (Solved xs k s) (NoneWithin t) level a b = absurd (solved_or_none problem limit xs k s t a b.1)
+answer_same problem limit (Solved xs k s) Limit level a p = absurd (solved_or_limit problem level limit xs k s a p)
+answer_same problem limit (Unsolvable s) (Solved ys l t) level a b = absurd (solved_or_none problem limit ys l t s b a.1)
+answer_same problem limit (Unsolvable s) (Unsolvable t) level a b = ap (λ n. Unsolvable n) (in_all_same problem level s t a.1.1 b.1.1)
+answer_same problem limit (Unsolvable s) (NoneWithin t) level a b = absurd (b.0 a.0)
+answer_same problem limit (Unsolvable s) Limit level a p = absurd (none_or_limit problem level limit s a.1 p)
+answer_same problem limit (NoneWithin s) (Solved ys l t) level a b = absurd (solved_or_none problem limit ys l t s b a.1)
+answer_same problem limit (NoneWithin s) (Unsolvable t) level a b = absurd (a.0 b.0)
+answer_same problem limit (NoneWithin s) (NoneWithin t) level a b = ap (λ n. NoneWithin n) (in_all_same problem level s t a.1.1 b.1.1)
+answer_same problem limit (NoneWithin s) Limit level a p = absurd (none_or_limit problem level limit s a.1 p)
+answer_same problem limit Limit (Solved ys l t) level p b = absurd (solved_or_limit problem level limit ys l t b p)
+answer_same problem limit Limit (Unsolvable t) level p b = absurd (none_or_limit problem level limit t b.1 p)
+answer_same problem limit Limit (NoneWithin t) level p b = absurd (none_or_limit problem level limit t b.1 p)
+answer_same problem limit Limit Limit level p q = refl

@@ -7,7 +7,7 @@ use Rattle.grid.specs.declared.moves.Letter.{Letter}
 use Rattle.grid.specs.Board.{Board, Scene, IsSolved, start, dir_cmp}
 use Rattle.grid.specs.Plays.{Play, Any, shortlex, dirs_of, letters_of}
 use Rattle.layers.specs.LayerView.{LayerView}
-use Rattle.successors.specs.Tasks.{Task}
+use Rattle.successors.specs.Problems.{Problem}
 use Rattle.successors.specs.Capping.{uncapped}
 use Rattle.layers.specs.Leads.{IsLeadOf}
 
@@ -23,7 +23,7 @@ pub record IsFirstSolved (board : Board) (places : List Scene) (rank : ℕ) : Ty
   pub first : (r : ℕ) (n : Scene) → r < rank → slice_get places r ≡ Some n → ¬ (IsSolved board n)
 
 -- the level with its cap of a list of layers, which is that of the first one
-abbrev pub level_of : List LayerView → Task
+abbrev pub level_of : List LayerView → Problem
 level_of [] = uncapped (record { cols = 0; cells = [] })
 level_of (layer ∷ layers) = layer.level
 

@@ -68,7 +68,7 @@ fn search_by(alloc: Global, problem: &Arc<Problem>, limit: u32) -> Result<Answer
 // Iterates until there is an answer. Fails only if out of memory.
 fn iterate(alloc: Global, search: &mut Search<'_>, books: &mut [Book]) -> Result<Answer, AllocError>
     requires { AreBetweenLayers search.old 1 1 books.old }
-    ensures { IfOk result (λ answer. IsAnswer search.old.task search.old.limit answer) }
+    ensures { IfOk result (λ answer. IsAnswer search.old.problem search.old.limit answer) }
 {
     loop {
         if let Some(answer) = iteration(alloc, search, books)? {
@@ -86,7 +86,7 @@ fn iteration(
 ) -> Result<Option<Answer>, AllocError>
     requires { AreBetweenLayers search.old 1 1 books.old }
     ensures answer { IfOk result
-        (λ found. IfSome found (λ answer. IsAnswer search.old.task search.old.limit answer)) }
+        (λ found. IfSome found (λ answer. IsAnswer search.old.problem search.old.limit answer)) }
     ensures onward { IfOk result (λ found. IfNone found (GoesOn search.old search.new 1 1 books.new)) }
 {
     let layer = last_layer(alloc, books, Vec::new(alloc))?;

@@ -2,7 +2,7 @@
 //! law in a proof.
 ghost use Rattle.std.specs.Prelude.{◌≡◌, ℕ, suc, ◌<◌, ◌≤◌, ◌↔◌, true, List, [], length};
 ghost use Rattle.grid.specs.Board.{Scene};
-ghost use Rattle.successors.specs.Tasks.{Task};
+ghost use Rattle.successors.specs.Problems.{Problem};
 ghost use Rattle.grid.specs.Lawful.{IsLevel};
 ghost use Rattle.layers.specs.BookView.{AreLawfulBooks, BookView, IsLawfulBook};
 ghost use Rattle.layers.specs.Books.{AreAllShares};
@@ -20,42 +20,42 @@ use crate::answer::Answer;
 /// A level with its cap and a limit have at most one answer.
 #[tactic(auto, using(crate::proofs::Uniqueness::answer_same))]
 pub fn an_answer_is_the_only_one()
-    ensures { (task : Task) (limit : ℕ) (a b : Answer) → IsLevel task.board → IsAnswer task limit a →
-        IsAnswer task limit b → a ≡ b }
+    ensures { (problem : Problem) (limit : ℕ) (a b : Answer) → IsLevel problem.board → IsAnswer problem limit a →
+        IsAnswer problem limit b → a ≡ b }
 {}
 
 /// The answer is `Limit` exactly if more positions than the limit are needed. A solvable level needs those of the
 /// layers up to the fewest pushes of a solution, an unsolvable one those of all layers.
 pub fn the_limit_is_passed_by_the_positions_needed()
-    ensures solved { (task : Task) (limit pushes positions : ℕ) → IsLevel task.board → IsFewest task pushes →
-        HaveTotal task (suc pushes) positions →
-        IsAnswer task limit Limit ↔ (limit < positions) }
-    ensures unsolvable { (task : Task) (limit positions : ℕ) → IsLevel task.board → HasNoneWithin task →
-        HasInAll task positions →
-        IsAnswer task limit Limit ↔ (limit < positions) }
+    ensures solved { (problem : Problem) (limit pushes positions : ℕ) → IsLevel problem.board → IsFewest problem pushes →
+        HaveTotal problem (suc pushes) positions →
+        IsAnswer problem limit Limit ↔ (limit < positions) }
+    ensures unsolvable { (problem : Problem) (limit positions : ℕ) → IsLevel problem.board → HasNoneWithin problem →
+        HasInAll problem positions →
+        IsAnswer problem limit Limit ↔ (limit < positions) }
 {}
 
 /// All layers after an empty layer are empty.
 pub fn an_empty_layer_is_the_last()
-    ensures { (task : Task) (empty later : ℕ) (places : List Scene) → IsLevel task.board → IsLayerOf task empty [] →
+    ensures { (problem : Problem) (empty later : ℕ) (places : List Scene) → IsLevel problem.board → IsLayerOf problem empty [] →
         empty ≤ later →
-        IsLayerOf task later places → places ≡ [] }
+        IsLayerOf problem later places → places ≡ [] }
 {}
 
 /// If a book of any share is over, and the search looked at the layers that the book has closed, the answer is `Limit`.
 pub fn a_book_that_is_over_passes_the_limit()
-    ensures { (task : Task) (limit positions : ℕ) (trail : List (List (Origin Push))) (book : BookView) →
-        IsLookedAt task limit trail positions →
-        IsLawfulBook book → book.level ≡ task → book.limit ≡ limit → book.over ≡ true →
-        length book.closed ≡ length trail → IsAnswer task limit Limit }
+    ensures { (problem : Problem) (limit positions : ℕ) (trail : List (List (Origin Push))) (book : BookView) →
+        IsLookedAt problem limit trail positions →
+        IsLawfulBook book → book.level ≡ problem → book.limit ≡ limit → book.over ≡ true →
+        length book.closed ≡ length trail → IsAnswer problem limit Limit }
 {}
 
 /// If the books of all shares together hold more positions than the limit, and the search looked at the layers that
 /// they have closed, the answer is `Limit`, whichever ranks are done in each book.
 pub fn books_that_hold_more_together_pass_the_limit()
-    ensures { (task : Task) (limit positions : ℕ) (trail : List (List (Origin Push))) (books : List BookView)
+    ensures { (problem : Problem) (limit positions : ℕ) (trail : List (List (Origin Push))) (books : List BookView)
         (all : AreAllShares books) →
-        IsLookedAt task limit trail positions → AreLawfulBooks books → all.first.level ≡ task →
+        IsLookedAt problem limit trail positions → AreLawfulBooks books → all.first.level ≡ problem →
         length all.first.closed ≡ length trail →
-        limit < all_held books → IsAnswer task limit Limit }
+        limit < all_held books → IsAnswer problem limit Limit }
 {}

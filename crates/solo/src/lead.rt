@@ -2,7 +2,7 @@
 ghost use Rattle.std.specs.Prelude.{◌≡◌, ℕ, ◌≤◌, ◌<◌, IfOk, List, Some, length, map, slice_get};
 ghost use Rattle.grid.specs.declared.square.Push.{Push as Made};
 ghost use Rattle.grid.specs.Board.{Scene};
-ghost use Rattle.successors.specs.Tasks.{Task};
+ghost use Rattle.successors.specs.Problems.{Problem};
 ghost use Rattle.layers.specs.LayerView.{LayerView, IsWhole};
 ghost use Rattle.store.specs.Entries.{Origin};
 ghost use Rattle.solo.specs.Leads.{AreFirstLayers, WritesLead, level_of, last_places};
@@ -114,9 +114,9 @@ fn lead_back(
 // The lead of the position with rank `asked` of the last layer, retraced through the parents of all layers. Fails only
 // if out of memory.
 fn lead_of<P: HasParents>(alloc: Global, trail: &[P], asked: u64) -> Result<Vec<Push>, AllocError>
-    ensures { IfOk result (λ pushes. (task : Task) (layers : List LayerView) →
-        AreTrailed task layers (map P.origins trail.now) →
-        asked < length (last_places layers) → IsLeadAt task (last_places layers) asked pushes.items) }
+    ensures { IfOk result (λ pushes. (problem : Problem) (layers : List LayerView) →
+        AreTrailed problem layers (map P.origins trail.now) →
+        asked < length (last_places layers) → IsLeadAt problem (last_places layers) asked pushes.items) }
 {
     let mut pushes = Vec::new(alloc);
     let mut rank = asked;

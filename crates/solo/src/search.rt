@@ -53,7 +53,7 @@ impl<'p> Model for Search<'p> {
     ghost Value = { SearchView };
 
     ghost view = { λ a. record {
-      task = arc_value a.problem.now;
+      problem = arc_value a.problem.now;
       limit = a.limit;
       trail = a.trail.items;
       positions = a.positions;
@@ -86,12 +86,12 @@ impl<'p> Search<'p> {
     /// New books of all `shares` shares of the problem's positions, share 0 first, for `workers` workers. The level
     /// has at most [`MAX_BOXES`](grid::MAX_BOXES) boxes.
     pub fn new_books(&mut self, workers: u8, shares: u8) -> Result<Vec<Book>, AllocError>
-        requires boxes { box_count self.old.task.board ≤ MAX_BOXES }
+        requires boxes { box_count self.old.problem.board ≤ MAX_BOXES }
         requires limit { 1 ≤ self.old.limit }
         requires workers { (1 ≤ workers) × (workers ≤ MAX_WORKERS + 1) }
         requires shares { (1 ≤ shares) × (shares ≤ MAX_SHARES) }
         ensures books { IfOk result
-            (λ books. AreNewShares self.old.task self.old.limit workers shares books.items) }
+            (λ books. AreNewShares self.old.problem self.old.limit workers shares books.items) }
         ensures same { self.new ≡ self.old }
     {
         match Book::of_all_shares(
@@ -121,7 +121,7 @@ impl<'p> Search<'p> {
     /// the layer has a solved position. It is `Unsolvable`, or `NoneWithin` under a cap, if the layer is empty.
     pub fn look(&mut self, layer: &Layer) -> Result<Option<Answer>, AllocError>
         requires next { IsNextLayer self.old layer.now }
-        ensures answer { IfOk result (λ found. IfSome found (λ answer. IsAnswer self.old.task self.old.limit answer)) }
+        ensures answer { IfOk result (λ found. IfSome found (λ answer. IsAnswer self.old.problem self.old.limit answer)) }
         ensures onward { IfOk result (λ found. IfNone found (IsExamined self.old layer.now)) }
         ensures limit { IfOk result
             (λ found. (found ≡ Some Limit) ↔ (self.old.limit < self.old.positions + length layer.now.places)) }
@@ -147,7 +147,7 @@ impl<'p> Search<'p> {
         requires next { IsNextLayer self.old layer.now }
         requires first { IsFirstSolved layer.now.level.board layer.now.places rank }
         requires within { self.old.positions + length layer.now.places ≤ self.old.limit }
-        ensures answer { IfOk result (λ answer. IsAnswer self.old.task self.old.limit answer) }
+        ensures answer { IfOk result (λ answer. IsAnswer self.old.problem self.old.limit answer) }
         ensures known { IfOk result (λ answer. answer ≢ Limit) }
         ensures same { self.new ≡ self.old }
     {
@@ -174,7 +174,7 @@ impl<'p> Search<'p> {
         layer: &Layer,
         worker: u8,
     ) -> Result<Option<u64>, AllocError>
-        requires level { layer.now.level ≡ self.old.task }
+        requires level { layer.now.level ≡ self.old.problem }
         requires few { length books.old ≤ MAX_SHARES }
         requires begun { (i : ℕ) (v : BookView) → slice_get books.old i ≡ Some v → HasBegun v layer.now }
         requires worker { (i : ℕ) (v : BookView) → slice_get books.old i ≡ Some v → worker < v.workers }

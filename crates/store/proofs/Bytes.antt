@@ -9,27 +9,27 @@ use Rattle.std.specs.Prelude.{slice_get}
 use Rattle.grid.specs.declared.square.Push.{Push}
 use Rattle.grid.specs.Board.{Scene}
 use Rattle.successors.specs.declared.parcel.Successor.{Successor}
-use Rattle.store.specs.Entries.{Entry, Closed, same_scene}
+use Rattle.store.specs.Entries.{OpenEntry, Closed, same_scene}
 use Rattle.grid.specs.Rising.{is_rising}
 use Rattle.store.specs.FoundView.{AllFit, AreBelow, FitsGrid, FoundView, found_view}
-use Rattle.store.specs.inside.KeyRows.{AllSuit, IsKey, Suits, SuitsLevel, high_bytes, joined_bytes, key_scene, key_squares, key_writes, low_bytes, padded}
+use Rattle.store.specs.inside.KeyRows.{AllSuit, IsKey, Suits, SuitsLevel, high_bytes, joined_bytes, key_scene, key_squares, key_writes, low_bytes, zero_padded}
 use Rattle.store.specs.inside.KeyRows.{scene_in}
 use Rattle.store.proofs.lemmas.Offers.{and_both, same_true, same_since}
 use Rattle.successors.proofs.lemmas.Lists.{map-push}
 
 -- ---- how they are written
 
-pub zeros : (n : ℕ) → replicate n 0 ≡ padded n []
+pub zeros : (n : ℕ) → replicate n 0 ≡ zero_padded n []
 zeros zero = refl
 zeros (suc n) = ap (λ xs. 0 ∷ xs) (zeros n)
 
-pub long : (n : ℕ) (xs : List ℕ) → length (padded n xs) ≡ n
+pub long : (n : ℕ) (xs : List ℕ) → length (zero_padded n xs) ≡ n
 long zero xs = refl
 long (suc n) [] = ap suc (long n [])
 long (suc n) (x ∷ xs) = ap suc (long n xs)
 
 -- in a row of no bytes nothing is written
-pub no_row : (row xs : List ℕ) → length row ≡ 0 → row ≡ padded (length row) xs
+pub no_row : (row xs : List ℕ) → length row ≡ 0 → row ≡ zero_padded (length row) xs
 no_row [] xs e = refl
 no_row (x ∷ row) xs e = absurd (omega (arith, e))
 
@@ -38,42 +38,42 @@ no_room zero boxes f le = refl
 no_room (suc n) boxes f le = absurd (omega (arith, f (omega arith), le))
 
 -- one more byte is written behind the others
-set_padded : (n : ℕ) (xs : List ℕ) (y : ℕ) → length xs < n → set (padded n xs) (length xs) y ≡ padded n (xs ++ y ∷ [])
+set_padded : (n : ℕ) (xs : List ℕ) (y : ℕ) → length xs < n → set (zero_padded n xs) (length xs) y ≡ zero_padded n (xs ++ y ∷ [])
 set_padded zero xs y lt = absurd (omega arith)
 set_padded (suc n) [] y lt = refl
 set_padded (suc n) (x ∷ xs) y lt = ap (λ zs. x ∷ zs) (set_padded n xs y (omega arith))
 
-pub first_written : (n x : ℕ) → 0 < n → set (padded n []) 0 x ≡ padded n (x ∷ [])
+pub first_written : (n x : ℕ) → 0 < n → set (zero_padded n []) 0 x ≡ zero_padded n (x ∷ [])
 first_written zero x lt = absurd (omega arith)
 first_written (suc n) x lt = refl
 
-pub more_written : (f : ℕ → ℕ) (n place p x : ℕ) (boxes row : List ℕ) → row ≡ padded n (map f (p ∷ take place boxes)) →
+pub more_written : (f : ℕ → ℕ) (n place p x : ℕ) (boxes row : List ℕ) → row ≡ zero_padded n (map f (p ∷ take place boxes)) →
     take (place + 1) boxes ≡ take place boxes ++ x ∷ [] → place < length boxes → place + 1 < n →
-    set row (place + 1) (f x) ≡ padded n (map f (p ∷ take (place + 1) boxes))
+    set row (place + 1) (f x) ≡ zero_padded n (map f (p ∷ take (place + 1) boxes))
 more_written f n place p x boxes row is more lt room =
     let before = map f (p ∷ take place boxes) in
     let count : length before ≡ place + 1 = omega (arith, length-map (p ∷ take place boxes) f, length-take-le place boxes (omega arith)) in
     (λ i. set (is i) (sym count i) (f x)) ∙ set_padded n before (f x) (omega (arith, count))
-    ∙ ap (padded n) (sym (map-push f (p ∷ take place boxes) x) ∙ ap (λ xs. map f (p ∷ xs)) (sym more))
+    ∙ ap (zero_padded n) (sym (map-push f (p ∷ take place boxes) x) ∙ ap (λ xs. map f (p ∷ xs)) (sym more))
 
 -- ---- what is read
 
-low_back : (n : ℕ) (xs : List ℕ) → length xs ≤ n → AreBelow 256 xs → take (length xs) (joined_bytes (padded n (low_bytes xs)) []) ≡ xs
+low_back : (n : ℕ) (xs : List ℕ) → length xs ≤ n → AreBelow 256 xs → take (length xs) (joined_bytes (zero_padded n (low_bytes xs)) []) ≡ xs
 low_back n [] le below = refl
 low_back zero (x ∷ xs) le below = absurd (omega arith)
 low_back (suc n) (x ∷ xs) le below = let e : x % 256 ≡ x = omega (arith, below.0) in λ i. e i ∷ low_back n xs (omega arith) below.1 i
 
-both_back : (n : ℕ) (xs : List ℕ) → length xs ≤ n → take (length xs) (joined_bytes (padded n (low_bytes xs)) (padded n (high_bytes xs))) ≡ xs
+both_back : (n : ℕ) (xs : List ℕ) → length xs ≤ n → take (length xs) (joined_bytes (zero_padded n (low_bytes xs)) (zero_padded n (high_bytes xs))) ≡ xs
 both_back n [] le = refl
 both_back zero (x ∷ xs) le = absurd (omega arith)
 both_back (suc n) (x ∷ xs) le = let e : x % 256 + 256 * (x / 256) ≡ x = omega arith in λ i. e i ∷ both_back n xs (omega arith) i
 
 back : (n k : ℕ) (m : Scene) → Suits n k m →
-    take (length (key_squares m)) (joined_bytes (padded n (low_bytes (key_squares m))) (padded k (high_bytes (key_squares m)))) ≡ key_squares m
+    take (length (key_squares m)) (joined_bytes (zero_padded n (low_bytes (key_squares m))) (zero_padded k (high_bytes (key_squares m)))) ≡ key_squares m
 back n k m suits = elim suits.bytes [
-  | inl same ↦ ap (λ j. take (length (key_squares m)) (joined_bytes (padded n (low_bytes (key_squares m))) (padded j (high_bytes (key_squares m))))) same ∙
+  | inl same ↦ ap (λ j. take (length (key_squares m)) (joined_bytes (zero_padded n (low_bytes (key_squares m))) (zero_padded j (high_bytes (key_squares m))))) same ∙
       both_back n (key_squares m) (omega (arith, suits.capacity))
-  | inr small ↦ ap (λ j. take (length (key_squares m)) (joined_bytes (padded n (low_bytes (key_squares m))) (padded j (high_bytes (key_squares m))))) small.0 ∙
+  | inr small ↦ ap (λ j. take (length (key_squares m)) (joined_bytes (zero_padded n (low_bytes (key_squares m))) (zero_padded j (high_bytes (key_squares m))))) small.0 ∙
       low_back n (key_squares m) (omega (arith, suits.capacity)) small.1
 ]
 
@@ -85,19 +85,19 @@ in_row (x ∷ xs) m e =
     λ i. record { boxes = boxes i; player = player i }
 
 -- the rows of a position show it
-pub shown : (n k : ℕ) (m : Scene) → Suits n k m → key_scene (length m.boxes) (padded n (low_bytes (key_squares m))) (padded k (high_bytes (key_squares m))) ≡ m
-shown n k m suits = in_row (joined_bytes (padded n (low_bytes (key_squares m))) (padded k (high_bytes (key_squares m)))) m (back n k m suits)
+pub shown : (n k : ℕ) (m : Scene) → Suits n k m → key_scene (length m.boxes) (zero_padded n (low_bytes (key_squares m))) (zero_padded k (high_bytes (key_squares m))) ≡ m
+shown n k m suits = in_row (joined_bytes (zero_padded n (low_bytes (key_squares m))) (zero_padded k (high_bytes (key_squares m)))) m (back n k m suits)
 
 pub is_key : (n k count : ℕ) (low high : List ℕ) (m : Scene) → Suits n k m → is_rising m.boxes ≡ true → count ≡ length m.boxes →
-    low ≡ padded n (low_bytes (key_squares m)) → high ≡ padded k (high_bytes (key_squares m)) → IsKey n k count low high × (key_scene count low high ≡ m)
+    low ≡ zero_padded n (low_bytes (key_squares m)) → high ≡ zero_padded k (high_bytes (key_squares m)) → IsKey n k count low high × (key_scene count low high ≡ m)
 is_key n k count low high m suits rising count_is low_is high_is =
     let view : key_scene count low high ≡ m = (λ i. key_scene (count_is i) (low_is i) (high_is i)) ∙ shown n k m suits in (
       record {
         capacity = omega (arith, suits.capacity, count_is);
         counted = count_is ∙ ap (λ (s : Scene). length s.boxes) (sym view);
         rising = ap (λ (s : Scene). is_rising s.boxes) view ∙ rising;
-        low_is = low_is ∙ ap (λ (s : Scene). padded n (low_bytes (key_squares s))) (sym view);
-        high_is = high_is ∙ ap (λ (s : Scene). padded k (high_bytes (key_squares s))) (sym view);
+        low_is = low_is ∙ ap (λ (s : Scene). zero_padded n (low_bytes (key_squares s))) (sym view);
+        high_is = high_is ∙ ap (λ (s : Scene). zero_padded k (high_bytes (key_squares s))) (sym view);
       },
       view,
     )
@@ -175,12 +175,12 @@ all_written n count player row all m e lt long view player_is =
 -- a key that was made of a position's squares shows it
 pub made : (n k count player : ℕ) (low high boxes : List ℕ) (m : Scene) → Suits n k m → boxes ≡ m.boxes → player ≡ m.player → is_rising boxes ≡ true →
     count ≡ length boxes →
-    low ≡ padded (length {A = ℕ} (replicate n 0)) (low_bytes (player ∷ boxes)) → high ≡ padded (length {A = ℕ} (replicate k 0)) (high_bytes (player ∷ boxes)) →
+    low ≡ zero_padded (length {A = ℕ} (replicate n 0)) (low_bytes (player ∷ boxes)) → high ≡ zero_padded (length {A = ℕ} (replicate k 0)) (high_bytes (player ∷ boxes)) →
     IsKey n k count low high × (key_scene count low high ≡ m)
 made n k count player low high boxes m suits boxes_are player_is rising counted low_is high_is =
     is_key n k count low high m suits (ap is_rising (sym boxes_are) ∙ rising) (counted ∙ ap length boxes_are)
-    (low_is ∙ (λ i. padded (length (zeros n i)) (low_bytes (player_is i ∷ boxes_are i))) ∙ ap (λ j. padded j (low_bytes (key_squares m))) (long n []))
-    (high_is ∙ (λ i. padded (length (zeros k i)) (high_bytes (player_is i ∷ boxes_are i))) ∙ ap (λ j. padded j (high_bytes (key_squares m))) (long k []))
+    (low_is ∙ (λ i. zero_padded (length (zeros n i)) (low_bytes (player_is i ∷ boxes_are i))) ∙ ap (λ j. zero_padded j (low_bytes (key_squares m))) (long n []))
+    (high_is ∙ (λ i. zero_padded (length (zeros k i)) (high_bytes (player_is i ∷ boxes_are i))) ∙ ap (λ j. zero_padded j (high_bytes (key_squares m))) (long k []))
 
 -- ---- comparing
 
@@ -209,8 +209,8 @@ same_fields n k a b low others high higher s t one other view views = both (((a 
     back_again e =
         let same : key_scene a low high ≡ key_scene b others higher = view ∙ same_true s t e ∙ sym views in
         let count : a ≡ b = one.counted ∙ ap (λ (m : Scene). length m.boxes) same ∙ sym other.counted in
-        let lows : low ≡ others = one.low_is ∙ ap (λ (m : Scene). padded n (low_bytes (key_squares m))) same ∙ sym other.low_is in
-        let highs : high ≡ higher = one.high_is ∙ ap (λ (m : Scene). padded k (high_bytes (key_squares m))) same ∙ sym other.high_is in
+        let lows : low ≡ others = one.low_is ∙ ap (λ (m : Scene). zero_padded n (low_bytes (key_squares m))) same ∙ sym other.low_is in
+        let highs : high ≡ higher = one.high_is ∙ ap (λ (m : Scene). zero_padded k (high_bytes (key_squares m))) same ∙ sym other.high_is in
         let counts : (a == b) ≡ true = grind (arith, nat_tests) in
         three (a == b) (pointwise nat_eq low others) (pointwise nat_eq high higher) counts ((bytes_decides low others).1 lows)
         ((bytes_decides high higher).1 highs)
@@ -223,12 +223,12 @@ same_fields n k a b low others high higher s t one other view views = both (((a 
 
 -- ---- feeding a hasher
 
-pub fed_both : {S : Type 0} (write : S → List ℕ → S) (n k : ℕ) (before after : S) (low high : List ℕ) (m : Scene) → low ≡ padded n (low_bytes (key_squares m)) →
-    high ≡ padded k (high_bytes (key_squares m)) → 0 < k → after ≡ write (write before low) high → after ≡ fold write before (key_writes n k m)
+pub fed_both : {S : Type 0} (write : S → List ℕ → S) (n k : ℕ) (before after : S) (low high : List ℕ) (m : Scene) → low ≡ zero_padded n (low_bytes (key_squares m)) →
+    high ≡ zero_padded k (high_bytes (key_squares m)) → 0 < k → after ≡ write (write before low) high → after ≡ fold write before (key_writes n k m)
 fed_both write n zero before after low high m low_is high_is lt e = absurd (omega arith)
 fed_both write n (suc k) before after low high m low_is high_is lt e = e ∙ (λ i. write (write before (low_is i)) (high_is i))
 
-pub fed_low : {S : Type 0} (write : S → List ℕ → S) (n k : ℕ) (before after : S) (low : List ℕ) (m : Scene) → low ≡ padded n (low_bytes (key_squares m)) →
+pub fed_low : {S : Type 0} (write : S → List ℕ → S) (n k : ℕ) (before after : S) (low : List ℕ) (m : Scene) → low ≡ zero_padded n (low_bytes (key_squares m)) →
     ¬ (0 < k) → after ≡ write before low → after ≡ fold write before (key_writes n k m)
 fed_low write n zero before after low m low_is none e = e ∙ ap (write before) low_is
 fed_low write n (suc k) before after low m low_is none e = absurd (none (omega arith))
@@ -247,7 +247,7 @@ suits n k boxes squares m level fits = record {
 }
 
 -- so they suit what fits what is found
-pub found_suit : (n k boxes squares start : ℕ) (es : List Closed) (pending : List (Entry Scene Push)) (v : FoundView) (ss : List Successor) →
+pub found_suit : (n k boxes squares start : ℕ) (es : List Closed) (pending : List (OpenEntry Scene Push)) (v : FoundView) (ss : List Successor) →
     SuitsLevel n k boxes squares → found_view boxes squares start es pending ≡ v → AllFit v ss → AllSuit n k ss
 found_suit n k boxes squares start es pending v ss level view fit = λ i s at.
     suits n k v.boxes v.squares s.position (subst (λ (u : FoundView). SuitsLevel n k u.boxes u.squares) view level) (fit.each i s at)

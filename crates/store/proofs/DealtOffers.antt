@@ -6,7 +6,7 @@ use Rattle.std.proofs.lemmas.Option.{slice_get-get_or}
 use Rattle.std.specs.Prelude.{slice_get}
 use Rattle.grid.specs.declared.square.Push.{Push}
 use Rattle.grid.specs.Board.{Scene}
-use Rattle.store.specs.Entries.{Entry}
+use Rattle.store.specs.Entries.{OpenEntry}
 use Rattle.successors.specs.Shares.{share_of}
 use Rattle.store.specs.FoundView.{offers_of}
 use Rattle.successors.specs.declared.parcel.Successor.{Successor}
@@ -23,7 +23,7 @@ offers_at_more rank ss (q ∷ ps) p =
     ∙ sym (append_assoc (offer_in rank (slice_get ss q)) (offers_at rank ss ps) (offer_in rank (slice_get ss p)))
 
 -- so one more place is looked at
-pub offer_more : (rank i p : ℕ) (ss : List Successor) (places : List ℕ) (s : Successor) (before now after : List (Entry Scene Push)) →
+pub offer_more : (rank i p : ℕ) (ss : List Successor) (places : List ℕ) (s : Successor) (before now after : List (OpenEntry Scene Push)) →
     i < length places → p ≡ get_or places i 0 → p < length ss → s ≡ get_or ss p s →
     now ≡ before ++ offers_at rank ss (take i places) → after ≡ now ++ offer_in rank (Some s) → after ≡ before ++ offers_at rank ss (take (i + 1) places)
 offer_more rank i p ss places s before now after lt is within here was e =
@@ -58,7 +58,7 @@ share_offers shares share rank k before (s ∷ ss) e =
     go rest false = ap (λ (xs : List Successor). offers_at rank xs places) (sym (append_assoc before (s ∷ []) ss)) ∙ rest
 
 -- so with the offers at the places of a share appended, those of the share are
-pub dealt_offers : (shares share rank told : ℕ) (found ss : List Successor) (places : List ℕ) (before after : List (Entry Scene Push)) →
+pub dealt_offers : (shares share rank told : ℕ) (found ss : List Successor) (places : List ℕ) (before after : List (OpenEntry Scene Push)) →
     after ≡ before ++ offers_at told found places → told ≡ rank → found ≡ ss → places ≡ successor_places shares share ss →
     after ≡ before ++ offers_of shares share rank ss
 dealt_offers shares share rank told found ss places before after e same_rank same are =

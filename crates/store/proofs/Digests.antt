@@ -2,16 +2,16 @@
 use Rattle.std.proofs.Common.{◌≡◌, ◌≢◌, ℕ, zero, suc, List, refl, ap, ◌∙◌, arith}
 use Rattle.std.specs.Hash.FoldHasher as folding
 use Rattle.grid.specs.Board.{Scene}
-use Rattle.store.specs.inside.KeyRows.{IsKey, high_bytes, key_digest, key_scene, key_squares, low_bytes, padded}
+use Rattle.store.specs.inside.KeyRows.{IsKey, high_bytes, key_digest, key_scene, key_squares, low_bytes, zero_padded}
 
 -- the rows are those of the position that they show
 low_of : (n k count : ℕ) (low high : List ℕ) (m : Scene) → IsKey n k count low high → key_scene count low high ≡ m →
-    low ≡ padded n (low_bytes (key_squares m))
-low_of n k count low high m key view = key.low_is ∙ ap (λ (s : Scene). padded n (low_bytes (key_squares s))) view
+    low ≡ zero_padded n (low_bytes (key_squares m))
+low_of n k count low high m key view = key.low_is ∙ ap (λ (s : Scene). zero_padded n (low_bytes (key_squares s))) view
 
 high_of : (n k count : ℕ) (low high : List ℕ) (m : Scene) → IsKey n k count low high → key_scene count low high ≡ m →
-    high ≡ padded k (high_bytes (key_squares m))
-high_of n k count low high m key view = key.high_is ∙ ap (λ (s : Scene). padded k (high_bytes (key_squares s))) view
+    high ≡ zero_padded k (high_bytes (key_squares m))
+high_of n k count low high m key view = key.high_is ∙ ap (λ (s : Scene). zero_padded k (high_bytes (key_squares s))) view
 
 -- of a key without high bytes
 pub low_digest : (n k count : ℕ) (low high : List ℕ) (m : Scene) → IsKey n k count low high → key_scene count low high ≡ m → k ≡ 0 →

@@ -11,7 +11,7 @@ use Rattle.indexmap.specs.Layout.{set_value_at}
 use Rattle.grid.specs.Board.{Scene}
 use Rattle.successors.proofs.lemmas.Lists.{map-push}
 use Rattle.store.specs.Entries.{same_scene}
-use Rattle.store.specs.Visited.{Entry, HasEntered, IsNew, VisitedView, entries_of, entry_of, visited_view, with_least}
+use Rattle.store.specs.Visited.{Node, HasEntered, IsNew, VisitedView, entries_of, entry_of, visited_view, with_least}
 use Rattle.store.specs.declared.visited.Label.{Label}
 use Rattle.store.proofs.lemmas.Offers.{same_since, same_true}
 
@@ -28,7 +28,7 @@ set_shown [] place e = refl
 set_shown (x ∷ es) zero e = refl
 set_shown (x ∷ es) (suc place) e = ap (λ ys. entry_of x ∷ ys) (set_shown es place e)
 
-pub keys_shown : (es : List Labelled) → keys_of es ≡ map (λ (x : Entry). x.position) (entries_of es)
+pub keys_shown : (es : List Labelled) → keys_of es ≡ map (λ (x : Node). x.position) (entries_of es)
 keys_shown [] = refl
 keys_shown (e ∷ es) = ap (λ ms. e.0 ∷ ms) (keys_shown es)
 
@@ -46,7 +46,7 @@ new_rest m e es none = by (same_scene m e.0) refl none
 none_has : (m : Scene) (es : List Labelled) → lookup (same_scene m) es ≡ None → IsNew (entries_of es) m
 none_has m [] none i x at same = none-some x at
 none_has m (e ∷ es) none zero x at same =
-    let there : m ≡ e.0 = sym (ap (λ (y : Entry). y.position) (same_Some (entry_of e) x at) ∙ same) in
+    let there : m ≡ e.0 = sym (ap (λ (y : Node). y.position) (same_Some (entry_of e) x at) ∙ same) in
     true≢false (sym (same_since m e.0 there) ∙ (new_rest m e es none).0)
 none_has m (e ∷ es) none (suc i) x at same = none_has m es (new_rest m e es none).1 i x at same
 
@@ -128,13 +128,13 @@ gives_way m v w es after place found at few put =
 
 -- ---- an entry whose least total is set
 
-written : (es : List Labelled) (place : ℕ) (w : Label) (x : Entry) → slice_get (entries_of es) place ≡ Some x →
+written : (es : List Labelled) (place : ℕ) (w : Label) (x : Node) → slice_get (entries_of es) place ≡ Some x →
     entries_of (set_value_at es place w) ≡ slice_set (entries_of es) place (entry_of (x.position, w))
 written [] place w x at = absurd (none-some x at)
-written (e ∷ es) zero w x at = ap (λ (y : Entry). entry_of (y.position, w) ∷ entries_of es) (same_Some (entry_of e) x at)
+written (e ∷ es) zero w x at = ap (λ (y : Node). entry_of (y.position, w) ∷ entries_of es) (same_Some (entry_of e) x at)
 written (e ∷ es) (suc place) w x at = ap (λ ys. entry_of e ∷ ys) (written es place w x at)
 
-label_at : (es : List Labelled) (place : ℕ) (label : Label) (x : Entry) → slice_get (values_of es) place ≡ Some label →
+label_at : (es : List Labelled) (place : ℕ) (label : Label) (x : Node) → slice_get (values_of es) place ≡ Some label →
     slice_get (entries_of es) place ≡ Some x → x ≡ entry_of (x.position, label)
 label_at [] place label x is at = absurd (none-some x at)
 label_at (e ∷ es) zero label x is at =
@@ -144,7 +144,7 @@ label_at (e ∷ es) (suc place) label x is at = label_at es place label x is at
 
 -- nothing else changes
 pub least_set : (boxes squares : ℕ) (es : List Labelled) (place : ℕ) (least : Option ℕ) (label : Label) (v : VisitedView) → visited_view boxes squares es ≡ v →
-    slice_get (values_of es) place ≡ Some label → (x : Entry) → slice_get v.entries place ≡ Some x →
+    slice_get (values_of es) place ≡ Some label → (x : Node) → slice_get v.entries place ≡ Some x →
     entries_of (set_value_at es place (record { pushes = label.pushes; least = least; parent = label.parent })) ≡
     slice_set v.entries place (with_least least x)
 least_set boxes squares es place least label v view_is is x at =

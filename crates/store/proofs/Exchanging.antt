@@ -15,7 +15,7 @@ use Rattle.indexmap.proofs.ReorderLemmas.{exchange, exchange-within, exchange-tw
 use Rattle.grid.specs.declared.dir.Dir.TheVariants.{D}
 use Rattle.grid.specs.declared.square.Push.{Push}
 use Rattle.grid.specs.Board.{Scene, push_cmp}
-use Rattle.store.specs.Entries.{Origin, Entry, origin_cmp, same_scene, Closed}
+use Rattle.store.specs.Entries.{Origin, OpenEntry, origin_cmp, same_scene, Closed}
 use Rattle.store.specs.Entering.{closed_entry, RiseByOrigin, IsSortedAppend}
 use Rattle.store.specs.FoundView.{IsFound, open_of, open_entry, origin_in, seen_of}
 use Rattle.store.specs.inside.Placing.{Row, rows_of, RowsRise, HaveAllPlaces, AreTargets, AreApart, AreAtTargets}
@@ -181,34 +181,34 @@ all_exchanged start before aims now targets place le is end others put =
 
 -- ---- rows
 
-pub length-rows : (k : ℕ) (ws : List (Entry Scene Push)) → length (rows_of k ws) ≡ length ws
+pub length-rows : (k : ℕ) (ws : List (OpenEntry Scene Push)) → length (rows_of k ws) ≡ length ws
 length-rows k [] = refl
 length-rows k (w ∷ ws) = ap suc (length-rows (suc k) ws)
 
-pub rows-push : (k : ℕ) (ws : List (Entry Scene Push)) (w : Entry Scene Push) → rows_of k (ws ++ w ∷ []) ≡ rows_of k ws ++ (w.1, k + length ws) ∷ []
+pub rows-push : (k : ℕ) (ws : List (OpenEntry Scene Push)) (w : OpenEntry Scene Push) → rows_of k (ws ++ w ∷ []) ≡ rows_of k ws ++ (w.1, k + length ws) ∷ []
 rows-push k [] w = let e : k ≡ k + 0 = omega arith in λ i. (w.1, e i) ∷ []
 rows-push k (v ∷ ws) w =
     let e : suc k + length ws ≡ k + suc (length ws) = omega arith in
     ap (λ (rs : List Row). (v.1, k) ∷ rs) (rows-push (suc k) ws w ∙ ap (λ n. rows_of (suc k) ws ++ (w.1, n) ∷ []) e)
 
-rows_at : (k : ℕ) (ws : List (Entry Scene Push)) (i p : ℕ) (w : Entry Scene Push) → slice_get ws i ≡ Some w → p ≡ k + i →
+rows_at : (k : ℕ) (ws : List (OpenEntry Scene Push)) (i p : ℕ) (w : OpenEntry Scene Push) → slice_get ws i ≡ Some w → p ≡ k + i →
     slice_get (rows_of k ws) i ≡ Some (w.1, p)
 rows_at k [] i p w at e = absurd (none-some w at)
 rows_at k (v ∷ ws) zero p w at e = let f : k ≡ p = omega (arith, e) in let same = same_Some v w at in λ i. Some ((same i).1, f i)
 rows_at k (v ∷ ws) (suc i) p w at e = rows_at (suc k) ws i p w at (omega (arith, e))
 
-at_rows : (ws : List (Entry Scene Push)) (i : ℕ) (r : Row) → slice_get (rows_of 0 ws) i ≡ Some r →
-    (w : Entry Scene Push) × (slice_get ws i ≡ Some w) × (r ≡ (w.1, i))
+at_rows : (ws : List (OpenEntry Scene Push)) (i : ℕ) (r : Row) → slice_get (rows_of 0 ws) i ≡ Some r →
+    (w : OpenEntry Scene Push) × (slice_get ws i ≡ Some w) × (r ≡ (w.1, i))
 at_rows ws i r at =
     let w = entry_at ws i (omega (arith, slice_get_within (rows_of 0 ws) i r at, length-rows 0 ws)) in
     (w.0, w.1, same_Some r (w.0.1, i) (sym at ∙ rows_at 0 ws i i w.0 w.1 (omega arith)))
 
-module _ (ws : List (Entry Scene Push)) (rows : List Row) (same : IsPermutation (rows_of 0 ws) rows) where
+module _ (ws : List (OpenEntry Scene Push)) (rows : List Row) (same : IsPermutation (rows_of 0 ws) rows) where
   as_many : length rows ≡ length ws
   as_many = length_permutation (rows_of 0 ws) rows same ∙ length-rows 0 ws
 
   -- a row tells an entry's origin and its place
-  row_tells : (i : ℕ) (r : Row) → slice_get rows i ≡ Some r → (w : Entry Scene Push) × (slice_get ws r.1 ≡ Some w) × (r.0 ≡ w.1)
+  row_tells : (i : ℕ) (r : Row) → slice_get rows i ≡ Some r → (w : OpenEntry Scene Push) × (slice_get ws r.1 ≡ Some w) × (r.0 ≡ w.1)
   row_tells i r at =
       let there = moved r rows (rows_of 0 ws) (IsPermutation-sym (rows_of 0 ws) rows same) (i, at) in
       let w = at_rows ws there.0 r there.1 in
@@ -225,20 +225,20 @@ module _ (ws : List (Entry Scene Push)) (rows : List Row) (same : IsPermutation 
   }
 
   -- the entries in the order of the rows
-  abbrev nowhere : Entry Scene Push
+  abbrev nowhere : OpenEntry Scene Push
   nowhere = (record { boxes = []; player = 0 }, (0, record { square = 0; dir = D }))
 
-  abbrev entry_of : Row → Entry Scene Push
+  abbrev entry_of : Row → OpenEntry Scene Push
   entry_of r = get_or ws r.1 nowhere
 
-  abbrev by_rows : List (Entry Scene Push)
+  abbrev by_rows : List (OpenEntry Scene Push)
   by_rows = map entry_of rows
 
   entry_is : (i : ℕ) (r : Row) → slice_get rows i ≡ Some r → (slice_get ws r.1 ≡ Some (entry_of r)) × ((entry_of r).1 ≡ r.0)
   entry_is i r at =
       let w = row_tells i r at in
       let e : entry_of r ≡ w.0 = get_or_from_slice_get ws r.1 w.0 nowhere w.1 in
-      (w.1 ∙ ap (λ (v : Entry Scene Push). Some v) (sym e), ap (λ (v : Entry Scene Push). v.1) e ∙ sym w.2)
+      (w.1 ∙ ap (λ (v : OpenEntry Scene Push). Some v) (sym e), ap (λ (v : OpenEntry Scene Push). v.1) e ∙ sym w.2)
 
   same_entries : IsPermutation ws by_rows
   same_entries = subst (λ vs. IsPermutation vs by_rows) (same_by_places (map entry_of (rows_of 0 ws)) ws (length-map (rows_of 0 ws) entry_of ∙
@@ -249,13 +249,13 @@ module _ (ws : List (Entry Scene Push)) (rows : List Row) (same : IsPermutation 
       by i lt =
           let w = entry_at ws i lt in
           map_at entry_of (rows_of 0 ws) i (w.0.1, i) (rows_at 0 ws i i w.0 w.1 (omega arith)) ∙
-          ap (λ (v : Entry Scene Push). Some v) (get_or_from_slice_get ws i w.0 nowhere w.1) ∙ sym w.1
+          ap (λ (v : OpenEntry Scene Push). Some v) (get_or_from_slice_get ws i w.0 nowhere w.1) ∙ sym w.1
 
   entries_rise : RowsRise rows → RiseByOrigin by_rows
   entries_rise rise i j x y lt at_i at_j =
       let a = at_map entry_of rows i x at_i in let b = at_map entry_of rows j y at_j in
-      let e : x.1 ≡ a.0.0 = ap (λ (v : Entry Scene Push). v.1) (sym a.2) ∙ (entry_is i a.0 a.1).1 in
-      let f : y.1 ≡ b.0.0 = ap (λ (v : Entry Scene Push). v.1) (sym b.2) ∙ (entry_is j b.0 b.1).1 in
+      let e : x.1 ≡ a.0.0 = ap (λ (v : OpenEntry Scene Push). v.1) (sym a.2) ∙ (entry_is i a.0 a.1).1 in
+      let f : y.1 ≡ b.0.0 = ap (λ (v : OpenEntry Scene Push). v.1) (sym b.2) ∙ (entry_is j b.0 b.1).1 in
       (λ n. is_gt (origin_cmp push_cmp (e n) (f n))) ∙ rise i j a.0 b.0 lt a.1 b.1
 
 pub apart_targets : (rows : List Row) (targets : List ℕ) → AreTargets rows targets → AreApart targets
@@ -271,7 +271,7 @@ pub one_row : (start place : ℕ) (es : List Closed) (rows more : List Row) (o :
 one_row start place es rows more o le lt before origin put =
     let w = entry_at es place lt in
     let e : Closed = w.0 in
-    let ws : List (Entry Scene Push) = open_of start (take place es) in
+    let ws : List (OpenEntry Scene Push) = open_of start (take place es) in
     let count : place - start ≡ 0 + length ws = omega
     (arith, length-map (drop start (take place es)) open_entry, length-drop start (take place es), length-take-le place es (omega (arith, lt))) in
     put ∙ (λ i. before i ++ (origin e w.1 i, count i) ∷ []) ∙ sym (rows-push 0 ws (open_entry e)) ∙ ap (rows_of 0) (sym (open_more start place es e le w.1)) ∙
@@ -334,10 +334,10 @@ put_in_order start es rows targets new found distinct same rise are put = (
   put (map closed_entry ys) (long, aimed),
 )
   where
-    ws : List (Entry Scene Push)
+    ws : List (OpenEntry Scene Push)
     ws = open_of start es
 
-    ys : List (Entry Scene Push)
+    ys : List (OpenEntry Scene Push)
     ys = by_rows ws rows same
 
     long : length (map closed_entry ys) ≡ length targets
@@ -346,7 +346,7 @@ put_in_order start es rows targets new found distinct same rise are put = (
     aimed : (x t : ℕ) → slice_get targets x ≡ Some t → slice_get es (start + x) ≡ slice_get (map closed_entry ys) t
     aimed x t at =
         let w = are.1 x t at in
-        let entry : Entry Scene Push = entry_of ws rows same w.0 in
+        let entry : OpenEntry Scene Push = entry_of ws rows same w.0 in
         let here : slice_get ws x ≡ Some entry = ap (slice_get ws) (sym w.2) ∙ (entry_is ws rows same t w.0 w.1).0 in
         ap (λ xs. slice_get xs (start + x)) (split start es found) ∙ at_back start es (map closed_entry ws) (start + x) x found.within refl ∙
         map_at closed_entry ws x entry here

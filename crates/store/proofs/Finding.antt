@@ -9,19 +9,19 @@ use Rattle.std.specs.Prelude.{slice_get}
 use Rattle.grid.specs.Board.{Scene}
 use Rattle.store.specs.Entries.{same_scene}
 use Rattle.store.specs.Places.{IsPlaceOf}
-use Rattle.store.specs.Visited.{Entry, IsNew, entries_of, entry_of}
+use Rattle.store.specs.Visited.{Node, IsNew, entries_of, entry_of}
 use Rattle.store.specs.declared.visited.Label.{Label}
 use Rattle.store.proofs.lemmas.Offers.{same_since, same_true}
 
 found_from : (m : Scene) (k i : ℕ) (es : List (Scene × Label)) → position_from (same_scene m) k (keys_of es) ≡ Some i →
-    (j : ℕ) × (i ≡ k + j) × (x : Entry) × (slice_get (entries_of es) j ≡ Some x) × (x.position ≡ m)
+    (j : ℕ) × (i ≡ k + j) × (x : Node) × (slice_get (entries_of es) j ≡ Some x) × (x.position ≡ m)
 found_from m k i [] e = absurd (none-some i e)
 found_from m k i (x ∷ es) e = go (same_scene m x.0) refl e (found_from m (k + 1) i es)
   where
     go : (b : Bool) → same_scene m x.0 ≡ b → cond b (Some k) (position_from (same_scene m) (k + 1) (keys_of es)) ≡ Some i →
-        (position_from (same_scene m) (k + 1) (keys_of es) ≡ Some i → (j : ℕ) × (i ≡ k + 1 + j) × (y : Entry) ×
+        (position_from (same_scene m) (k + 1) (keys_of es) ≡ Some i → (j : ℕ) × (i ≡ k + 1 + j) × (y : Node) ×
         (slice_get (entries_of es) j ≡ Some y) × (y.position ≡ m)) →
-        (j : ℕ) × (i ≡ k + j) × (y : Entry) × (slice_get (entries_of (x ∷ es)) j ≡ Some y) × (y.position ≡ m)
+        (j : ℕ) × (i ≡ k + j) × (y : Node) × (slice_get (entries_of (x ∷ es)) j ≡ Some y) × (y.position ≡ m)
     go true s f t = (zero, omega (arith, same_Some k i f), entry_of x, refl, sym (same_true m x.0 s))
     go false s f t = let (j, is, y, there, same) = t f in (suc j, omega (arith, is), y, there, same)
 
@@ -33,7 +33,7 @@ new_from m k (e ∷ es) none = go (same_scene m e.0) refl none (new_from m (k + 
         (position_from (same_scene m) (k + 1) (keys_of es) ≡ None → IsNew (entries_of es) m) → IsNew (entries_of (e ∷ es)) m
     go true s found rest i x at same = absurd (none-some k (sym found))
     go false s found rest zero x at same =
-        let there : m ≡ e.0 = sym (ap (λ (y : Entry). y.position) (same_Some (entry_of e) x at) ∙ same) in
+        let there : m ≡ e.0 = sym (ap (λ (y : Node). y.position) (same_Some (entry_of e) x at) ∙ same) in
         true≢false (sym (same_since m e.0 there) ∙ s)
     go false s found rest (suc i) x at same = rest found i x at same
 

@@ -11,7 +11,7 @@ use Rattle.std.specs.Prelude.{slice_get}
 use Rattle.grid.specs.declared.square.Push.{Push}
 use Rattle.grid.specs.Board.{Scene, push_cmp}
 use Rattle.successors.proofs.lemmas.Lists.{at_before}
-use Rattle.store.specs.Entries.{Closed, Entry, Origin, lesser, origin_cmp, same_scene}
+use Rattle.store.specs.Entries.{Closed, OpenEntry, Origin, lesser, origin_cmp, same_scene}
 use Rattle.store.specs.Entering.{closed_entry, offered}
 use Rattle.store.specs.FoundView.{IsFound, all_let_in, keeps, let_in, open_of, seen_of}
 use Rattle.store.specs.inside.Indices.{HasKeyAt}
@@ -61,7 +61,7 @@ place_less m o start place es k v less found at read is lesser told =
 
 -- ---- how they stay
 
-offered_front : (ws : List (Entry Scene Push)) (m : Scene) (o : Origin Push) →
+offered_front : (ws : List (OpenEntry Scene Push)) (m : Scene) (o : Origin Push) →
     (more : List Scene) × (open_places (offered ws m o) ≡ open_places ws ++ more)
 offered_front [] m o = (m ∷ [], refl)
 offered_front (w ∷ ws) m o = go (same_scene m w.0) (offered_front ws m o)
@@ -71,7 +71,7 @@ offered_front (w ∷ ws) m o = go (same_scene m w.0) (offered_front ws m o)
     go true t = ([], ap (λ xs. w.0 ∷ xs) (sym (append-nil (open_places ws))))
     go false t = (t.0, ap (λ xs. w.0 ∷ xs) t.1)
 
-let_in_front : (seen : List Closed) (ws : List (Entry Scene Push)) (e : Entry Scene Push) →
+let_in_front : (seen : List Closed) (ws : List (OpenEntry Scene Push)) (e : OpenEntry Scene Push) →
     (more : List Scene) × (open_places (let_in seen ws e) ≡ open_places ws ++ more)
 let_in_front seen ws e = go (is_some (lookup (same_scene e.0) seen))
   where
@@ -79,7 +79,7 @@ let_in_front seen ws e = go (is_some (lookup (same_scene e.0) seen))
     go true = ([], sym (append-nil (open_places ws)))
     go false = offered_front ws e.0 e.1
 
-all_front : (seen : List Closed) (offers ws : List (Entry Scene Push)) →
+all_front : (seen : List Closed) (offers ws : List (OpenEntry Scene Push)) →
     (more : List Scene) × (open_places (all_let_in seen ws offers) ≡ open_places ws ++ more)
 all_front seen [] ws = ([], sym (append-nil (open_places ws)))
 all_front seen (e ∷ offers) ws =
@@ -87,7 +87,7 @@ all_front seen (e ∷ offers) ws =
     let rest = all_front seen offers (let_in seen ws e) in
     (one.0 ++ rest.0, rest.1 ∙ ap (λ xs. xs ++ rest.0) one.1 ∙ append_assoc (open_places ws) one.0 rest.0)
 
-keys_joined : (xs : List Closed) (ws : List (Entry Scene Push)) → keys_of (xs ++ map closed_entry ws) ≡ keys_of xs ++ open_places ws
+keys_joined : (xs : List Closed) (ws : List (OpenEntry Scene Push)) → keys_of (xs ++ map closed_entry ws) ≡ keys_of xs ++ open_places ws
 keys_joined [] [] = refl
 keys_joined [] (w ∷ ws) = ap (λ ks. w.0 ∷ ks) (keys_joined [] ws)
 keys_joined (x ∷ xs) ws = ap (λ ks. x.0 ∷ ks) (keys_joined xs ws)
@@ -96,7 +96,7 @@ keys_apart : (start : ℕ) (es : List Closed) → IsFound start es → keys_of e
 keys_apart start es found = ap keys_of (split start es found) ∙ keys_joined (seen_of start es) (open_of start es)
 
 -- the position at an index keeps it while offers enter
-pub stays : (start : ℕ) (es later : List Closed) (offers : List (Entry Scene Push)) (place : ℕ) (m : Scene) → IsFound start es → IsFound start later →
+pub stays : (start : ℕ) (es later : List Closed) (offers : List (OpenEntry Scene Push)) (place : ℕ) (m : Scene) → IsFound start es → IsFound start later →
     seen_of start later ≡ seen_of start es → open_of start later ≡ all_let_in (seen_of start es) (open_of start es) offers →
     HasKeyAt es place m → HasKeyAt later place m
 stays start es later offers place m found founds seen waits at =

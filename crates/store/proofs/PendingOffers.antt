@@ -10,7 +10,7 @@ use Rattle.std.specs.Prelude.{OnErr, slice_get}
 use Rattle.std.specs.Map.{lookup}
 use Rattle.grid.specs.declared.square.Push.{Push}
 use Rattle.grid.specs.Board.{Scene}
-use Rattle.store.specs.Entries.{Origin, Entry, same_scene, Closed, origin_of}
+use Rattle.store.specs.Entries.{Origin, OpenEntry, same_scene, Closed, origin_of}
 use Rattle.successors.specs.Shares.{share_of}
 use Rattle.successors.specs.declared.parcel.Successor.{Successor}
 use Rattle.successors.specs.inside.Sums.{AreSums, scene_sum}
@@ -49,42 +49,42 @@ length-offers shares share rank (s ∷ ss) = omega (
   length-offers shares share rank ss,
 )
   where
-    one : (b : Bool) → length {A = Entry Scene Push} (if b then (s.position, (rank, s.push)) ∷ [] else []) ≤ 1
+    one : (b : Bool) → length {A = OpenEntry Scene Push} (if b then (s.position, (rank, s.push)) ∷ [] else []) ≤ 1
     one true = omega arith
     one false = omega arith
 
 -- ---- how they enter
 
 -- one more offer enters after the others
-pub let_in_more : (seen : List Closed) (ws offers : List (Entry Scene Push)) (e : Entry Scene Push) →
+pub let_in_more : (seen : List Closed) (ws offers : List (OpenEntry Scene Push)) (e : OpenEntry Scene Push) →
     all_let_in seen ws (offers ++ e ∷ []) ≡ let_in seen (all_let_in seen ws offers) e
 let_in_more seen ws offers e = fold_push (let_in seen) ws offers e
 
 -- the first count offers enter, and then the others
-pub let_in_parts : (seen : List Closed) (ws offers : List (Entry Scene Push)) (count : ℕ) →
+pub let_in_parts : (seen : List Closed) (ws offers : List (OpenEntry Scene Push)) (count : ℕ) →
     all_let_in seen (all_let_in seen ws (take count offers)) (drop count offers) ≡ all_let_in seen ws offers
 let_in_parts seen ws offers count = sym (fold-append (let_in seen) ws (take count offers) (drop count offers)) ∙
     ap (λ xs. all_let_in seen ws xs) (take-append-drop count offers)
 
 -- if none is left, all have entered
-pub all_entered : (seen : List Closed) (ws rest after : List (Entry Scene Push)) → length rest ≡ 0 → all_let_in seen ws rest ≡ after → ws ≡ after
+pub all_entered : (seen : List Closed) (ws rest after : List (OpenEntry Scene Push)) → length rest ≡ 0 → all_let_in seen ws rest ≡ after → ws ≡ after
 all_entered seen ws [] after none e = e
 all_entered seen ws (x ∷ rest) after none e = absurd (omega (arith, none))
 
 -- there is capacity for those that are left
-pub fewer_wait : (count old new : ℕ) (rest left : List (Entry Scene Push)) → left ≡ drop count rest → length rest ≤ old →
+pub fewer_wait : (count old new : ℕ) (rest left : List (OpenEntry Scene Push)) → left ≡ drop count rest → length rest ≤ old →
     old ≤ new + length (take count rest) → length left ≤ new
 fewer_wait count old new rest left is room used =
     omega (arith, ap length is, length-append (take count rest) (drop count rest), ap length (take-append-drop count rest), room, used)
 
 -- and no more of it is used than there were offers
-pub fewer_used : (first all count old new : ℕ) (rest left : List (Entry Scene Push)) → left ≡ drop count rest → first + length rest ≤ old + all →
+pub fewer_used : (first all count old new : ℕ) (rest left : List (OpenEntry Scene Push)) → left ≡ drop count rest → first + length rest ≤ old + all →
     old ≤ new + length (take count rest) → first + length left ≤ new + all
 fewer_used first all count old new rest left is before used =
     omega (arith, ap length is, length-append (take count rest) (drop count rest), ap length (take-append-drop count rest), before, used)
 
 -- the offers of a rank's successors enter as the wanted successors do
-pub let_in_offers : (seen : List Closed) (shares share rank : ℕ) (ss : List Successor) (ws : List (Entry Scene Push)) →
+pub let_in_offers : (seen : List Closed) (shares share rank : ℕ) (ss : List Successor) (ws : List (OpenEntry Scene Push)) →
     all_let_in seen ws (offers_of shares share rank ss) ≡ fold (entered (is_wanted_in seen shares share) rank) ws ss
 let_in_offers seen shares share rank [] ws = refl
 let_in_offers seen shares share rank (s ∷ ss) ws =
@@ -100,7 +100,7 @@ let_in_offers seen shares share rank (s ∷ ss) ws =
     go true false e = ap (λ b. if b then ws else offered ws s.position (rank, s.push)) e
 
 -- so if the offers of a rank's successors are pending too, what is found is the same as if they had entered
-pub offers_appended : (boxes squares start shares share rank : ℕ) (es : List Closed) (pending : List (Entry Scene Push)) (ss : List Successor) (v : FoundView) →
+pub offers_appended : (boxes squares start shares share rank : ℕ) (es : List Closed) (pending : List (OpenEntry Scene Push)) (ss : List Successor) (v : FoundView) →
     found_view boxes squares start es pending ≡ v →
     found_view boxes squares start es (pending ++ offers_of shares share rank ss) ≡ with_entered v shares share rank ss
 offers_appended boxes squares start shares share rank es pending ss v view =
@@ -114,7 +114,7 @@ offers_appended boxes squares start shares share rank es pending ss v view =
 -- ---- how many they are
 
 -- an offer opens at most one more position
-length-let_in : (seen : List Closed) (ws : List (Entry Scene Push)) (e : Entry Scene Push) → (length ws ≤ length (let_in seen ws e)) ×
+length-let_in : (seen : List Closed) (ws : List (OpenEntry Scene Push)) (e : OpenEntry Scene Push) → (length ws ≤ length (let_in seen ws e)) ×
     (length (let_in seen ws e) ≤ length ws + 1)
 length-let_in seen ws e = go (is_some (lookup (same_scene e.0) seen))
   where
@@ -126,7 +126,7 @@ length-let_in seen ws e = go (is_some (lookup (same_scene e.0) seen))
     go true = (omega arith, omega arith)
     go false = (omega (arith, length-offered ws e.0 e.1), omega (arith, length-offered ws e.0 e.1, one (origin_of ws e.0)))
 
-pub length-all_let_in : (seen : List Closed) (offers ws : List (Entry Scene Push)) → (length ws ≤ length (all_let_in seen ws offers)) ×
+pub length-all_let_in : (seen : List Closed) (offers ws : List (OpenEntry Scene Push)) → (length ws ≤ length (all_let_in seen ws offers)) ×
     (length (all_let_in seen ws offers) ≤ length ws + length offers)
 length-all_let_in seen [] ws = (omega arith, omega arith)
 length-all_let_in seen (e ∷ offers) ws =
@@ -144,7 +144,7 @@ length-split start es found = omega (
 )
 
 -- the map holds no more than is found, and with the pending offers no less
-pub length-found : (boxes squares start : ℕ) (es : List Closed) (pending : List (Entry Scene Push)) (v : FoundView) → IsFound start es →
+pub length-found : (boxes squares start : ℕ) (es : List Closed) (pending : List (OpenEntry Scene Push)) (v : FoundView) → IsFound start es →
     found_view boxes squares start es pending ≡ v → (length es ≤ length v.seen + length v.waiting) × (length v.seen + length v.waiting ≤ length es + length pending)
 length-found boxes squares start es pending v found view =
     let n = length-split start es found in
@@ -155,7 +155,7 @@ length-found boxes squares start es pending v found view =
 
 -- ---- the limit
 
-length-entered-le : (wanted : Scene → Bool) (rank : ℕ) (ss : List Successor) (es : List (Entry Scene Push)) →
+length-entered-le : (wanted : Scene → Bool) (rank : ℕ) (ss : List Successor) (es : List (OpenEntry Scene Push)) →
     length (fold (entered wanted rank) es ss) ≤ length es + length ss
 length-entered-le wanted rank [] es = omega arith
 length-entered-le wanted rank (s ∷ ss) es = omega (arith, length-entered-le wanted rank ss (entered wanted rank es s), one (wanted s.position))

@@ -7,7 +7,7 @@ use Rattle.std.specs.declared.cmp.Ordering.TheVariants.{Less, Equal, Greater}
 use Rattle.std.specs.Ordering.{is_lt, is_gt, ordering_reverse}
 use Rattle.grid.specs.declared.square.Push.{Push}
 use Rattle.grid.specs.Board.{Scene, push_cmp}
-use Rattle.store.specs.Entries.{Origin, origin_cmp, Entry}
+use Rattle.store.specs.Entries.{Origin, origin_cmp, OpenEntry}
 use Rattle.store.specs.Entering.{RiseByOrigin}
 use Rattle.store.specs.FoundView.{NoneExceed}
 use Rattle.grid.proofs.lemmas.Orders.{push_cmp_total}
@@ -38,7 +38,7 @@ not_greater a b e = ap is_gt ((origin_total push_cmp_total).antisymm a b) ∙ tu
     turned Greater f = refl
 
 -- one more that is no less than the last one
-pub rise_more : (ws : List (Entry Scene Push)) (last : Origin Push) (e : Entry Scene Push) → RiseByOrigin ws → NoneExceed ws last →
+pub rise_more : (ws : List (OpenEntry Scene Push)) (last : Origin Push) (e : OpenEntry Scene Push) → RiseByOrigin ws → NoneExceed ws last →
     is_lt (origin_cmp push_cmp e.1 last) ≡ false → RiseByOrigin (ws ++ e ∷ []) × NoneExceed (ws ++ e ∷ []) e.1
 rise_more ws last e rise none less = (rises, bounded)
   where
@@ -59,7 +59,7 @@ rise_more ws last e rise none less = (rises, bounded)
     bounded : NoneExceed (ws ++ e ∷ []) e.1
     bounded i x at = elim (at-push ws e i x at) [
       | inl old ↦ before i x old
-      | inr new ↦ ap (λ (y : Entry Scene Push). is_gt (origin_cmp push_cmp y.1 e.1)) new.1 ∙ itself
+      | inr new ↦ ap (λ (y : OpenEntry Scene Push). is_gt (origin_cmp push_cmp y.1 e.1)) new.1 ∙ itself
     ]
 
     rises : RiseByOrigin (ws ++ e ∷ [])
@@ -69,7 +69,7 @@ rise_more ws last e rise none less = (rises, bounded)
         | inr new_i ↦ absurd (omega (arith, lt, new_i.0, slice_get_within ws j y old))
       ]
       | inr new ↦ elim (at-push ws e i x at_i) [
-        | inl old_i ↦ ap (λ (z : Entry Scene Push). is_gt (origin_cmp push_cmp x.1 z.1)) new.1 ∙ before i x old_i
+        | inl old_i ↦ ap (λ (z : OpenEntry Scene Push). is_gt (origin_cmp push_cmp x.1 z.1)) new.1 ∙ before i x old_i
         | inr new_i ↦ absurd (omega (arith, lt, new_i.0, new.0))
       ]
     ]

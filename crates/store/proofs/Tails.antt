@@ -13,7 +13,7 @@ use Rattle.std.specs.Ordering.{is_lt}
 use Rattle.indexmap.specs.IndexMap.{insert_entry}
 use Rattle.grid.specs.declared.square.Push.{Push}
 use Rattle.grid.specs.Board.{Scene, push_cmp}
-use Rattle.store.specs.Entries.{Origin, origin_cmp, Entry, same_scene, Closed, origin_of}
+use Rattle.store.specs.Entries.{Origin, origin_cmp, OpenEntry, same_scene, Closed, origin_of}
 use Rattle.successors.specs.Shares.{share_of}
 use Rattle.store.specs.Entering.{closed_entry, is_wanted_in, offered, RiseByOrigin, IsSortedAppend}
 use Rattle.store.specs.FoundView.{FoundView, found_view, open_entry, seen_of, open_of, IsFound, is_least, keeps, let_in}
@@ -22,7 +22,7 @@ use Rattle.successors.proofs.lemmas.Lists.{map-push}
 use Rattle.store.proofs.lemmas.Closings.{distinct_from}
 use Rattle.store.proofs.lemmas.Copies.{copied_more}
 
-pub open_closed : (ws : List (Entry Scene Push)) → map open_entry (map closed_entry ws) ≡ ws
+pub open_closed : (ws : List (OpenEntry Scene Push)) → map open_entry (map closed_entry ws) ≡ ws
 open_closed [] = refl
 open_closed (w ∷ ws) = ap (λ xs. w ∷ xs) (open_closed ws)
 
@@ -45,7 +45,7 @@ length_seen (suc start) [] le = absurd (omega arith)
 length_seen (suc start) (e ∷ es) le = ap suc (length_seen start es (omega arith))
 
 -- there are as many closed entries as the place says
-pub seen_long : (boxes squares start : ℕ) (es : List Closed) (pending : List (Entry Scene Push)) (v : FoundView) → IsFound start es →
+pub seen_long : (boxes squares start : ℕ) (es : List Closed) (pending : List (OpenEntry Scene Push)) (v : FoundView) → IsFound start es →
     found_view boxes squares start es pending ≡ v → length v.seen ≡ start
 seen_long boxes squares start es pending v found e = ap (λ (u : FoundView). length u.seen) (sym e) ∙ length_seen start es found.within
 
@@ -63,7 +63,7 @@ seen_at (suc start) (e ∷ es) zero lt = refl
 seen_at (suc start) (e ∷ es) (suc i) lt = seen_at start es i (omega arith)
 
 -- what is put together so is taken apart so
-pub joined : (start : ℕ) (es new : List Closed) (ws : List (Entry Scene Push)) → start ≤ length es → new ≡ seen_of start es ++ map closed_entry ws →
+pub joined : (start : ℕ) (es new : List Closed) (ws : List (OpenEntry Scene Push)) → start ≤ length es → new ≡ seen_of start es ++ map closed_entry ws →
     (seen_of start new ≡ seen_of start es) × (open_of start new ≡ ws) × IsFound start new
 joined start es new ws within e = (
   front,
@@ -114,7 +114,7 @@ as_closed None = None
 as_closed (Some o) = Some (Some o)
 
 -- an entry that is open is found with its origin
-look_open : (m : Scene) (ws : List (Entry Scene Push)) → lookup (same_scene m) (map closed_entry ws) ≡ as_closed (origin_of ws m)
+look_open : (m : Scene) (ws : List (OpenEntry Scene Push)) → lookup (same_scene m) (map closed_entry ws) ≡ as_closed (origin_of ws m)
 look_open m [] = refl
 look_open m (w ∷ ws) = go (same_scene m w.0) (look_open m ws)
   where
@@ -236,7 +236,7 @@ other_number x y e = grind (arith, nat_tests)
 -- ---- entering
 
 -- an offer that changes nothing leaves the open entries unchanged
-pub let_in_kept : (seen : List Closed) (ws : List (Entry Scene Push)) (m : Scene) (o : Origin Push) → true ≡ keeps seen ws m o → ws ≡ let_in seen ws (m, o)
+pub let_in_kept : (seen : List Closed) (ws : List (OpenEntry Scene Push)) (m : Scene) (o : Origin Push) → true ≡ keeps seen ws m o → ws ≡ let_in seen ws (m, o)
 let_in_kept seen ws m o e = go (is_some (lookup (same_scene m) seen)) e (origin_of ws m) refl
   where
     not_true : (b : Bool) → true ≡ not b → b ≡ false
@@ -248,7 +248,7 @@ let_in_kept seen ws m o e = go (is_some (lookup (same_scene m) seen)) e (origin_
     go false t None g = absurd (let h = t ∙ ap (λ x. is_least x o) g in cc)
     go false t (Some p) g = sym (offered-kept ws m o p g (not_true (is_lt (origin_cmp push_cmp o p)) (t ∙ ap (λ x. is_least x o) g)))
 
-insert_open : (m : Scene) (o : Origin Push) (ws : List (Entry Scene Push)) →
+insert_open : (m : Scene) (o : Origin Push) (ws : List (OpenEntry Scene Push)) →
     insert_entry same_scene (map closed_entry ws) m (Some o) ≡ map closed_entry (insert_entry same_scene ws m o)
 insert_open m o [] = refl
 insert_open m o (w ∷ ws) = go (same_scene m w.0) (insert_open m o ws)
@@ -259,7 +259,7 @@ insert_open m o (w ∷ ws) = go (same_scene m w.0) (insert_open m o ws)
     go true t = refl
     go false t = ap (λ xs. closed_entry w ∷ xs) t
 
-insert_past : (m : Scene) (o : Origin Push) (seen : List Closed) (ws : List (Entry Scene Push)) → lookup (same_scene m) seen ≡ None →
+insert_past : (m : Scene) (o : Origin Push) (seen : List Closed) (ws : List (OpenEntry Scene Push)) → lookup (same_scene m) seen ≡ None →
     insert_entry same_scene (seen ++ map closed_entry ws) m (Some o) ≡ seen ++ map closed_entry (insert_entry same_scene ws m o)
 insert_past m o [] ws e = insert_open m o ws
 insert_past m o (x ∷ seen) ws e = go (same_scene m x.0) e (insert_past m o seen ws)
@@ -301,13 +301,13 @@ let_in_put start es new m o found changes put = go (is_some (lookup (same_scene 
 
 -- ---- the keys of those that are open
 
-keys_open : (es : List Closed) → map (λ (e : Entry Scene Push). e.0) (map open_entry es) ≡ keys_of es
+keys_open : (es : List Closed) → map (λ (e : OpenEntry Scene Push). e.0) (map open_entry es) ≡ keys_of es
 keys_open [] = refl
 keys_open (e ∷ es) = ap (λ ks. e.0 ∷ ks) (keys_open es)
 
 -- they are distinct since all keys are
 pub open_distinct : (start : ℕ) (es : List Closed) → IsDistinct same_scene (keys_of es) →
-    IsDistinct same_scene (map (λ (e : Entry Scene Push). e.0) (open_of start es))
+    IsDistinct same_scene (map (λ (e : OpenEntry Scene Push). e.0) (open_of start es))
 open_distinct zero [] distinct = distinct
 open_distinct zero (e ∷ es) distinct = subst (IsDistinct same_scene) (sym (keys_open (e ∷ es))) distinct
 open_distinct (suc start) [] distinct = distinct
@@ -331,7 +331,7 @@ pub risen : (start : ℕ) (es : List Closed) → IsFound start es → IsDistinct
     IsSortedAppend (seen_of start es) (open_of start es) es
 risen start es found distinct rise = (
   open_of start es,
-  (refl, λ m. refl, distinct_from (map (λ (e : Entry Scene Push). e.0) (open_of start es)) (open_distinct start es distinct)),
+  (refl, λ m. refl, distinct_from (map (λ (e : OpenEntry Scene Push). e.0) (open_of start es)) (open_distinct start es distinct)),
   rise,
   split start es found,
 )

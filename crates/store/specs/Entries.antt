@@ -21,8 +21,8 @@ abbrev pub lesser : {P : Type 0} → (P → P → Ordering) → Origin P → Ori
 lesser cmp a b = if is_lt (origin_cmp cmp b a) then b else a
 
 -- a position with its origin
-abbrev pub Entry : Type 0 → Type 0 → Type 0
-Entry N P = N × Origin P
+abbrev pub OpenEntry : Type 0 → Type 0 → Type 0
+OpenEntry N P = N × Origin P
 
 -- the two positions have the same boxes and the same player
 abbrev pub same_scene : Scene → Scene → Bool
@@ -42,5 +42,5 @@ origins_of [] = []
 origins_of (e ∷ es) = option_to_list e.1 ++ origins_of es
 
 -- the origin of a position, if it is open
-abbrev pub origin_of : List (Entry Scene Push) → Scene → Option (Origin Push)
+abbrev pub origin_of : List (OpenEntry Scene Push) → Scene → Option (Origin Push)
 origin_of waiting m = lookup (same_scene m) waiting

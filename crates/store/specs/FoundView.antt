@@ -8,7 +8,7 @@ use Rattle.grid.specs.declared.dir.Dir.TheVariants.{D}
 use Rattle.grid.specs.declared.square.Push.{Push}
 use Rattle.grid.specs.Board.{Scene, push_cmp}
 use Rattle.successors.specs.declared.parcel.Successor.{Successor}
-use Rattle.store.specs.Entries.{Origin, Entry, origin_cmp, same_scene, Closed, origin_of}
+use Rattle.store.specs.Entries.{Origin, OpenEntry, origin_cmp, same_scene, Closed, origin_of}
 use Rattle.successors.specs.Shares.{share_of}
 use Rattle.store.specs.Entering.{closed_entry, is_wanted_in, entered, offered}
 
@@ -18,7 +18,7 @@ pub record FoundView : Type 0 where
   pub boxes : ℕ
   pub squares : ℕ
   pub seen : List Closed
-  pub waiting : List (Entry Scene Push)
+  pub waiting : List (OpenEntry Scene Push)
 
 -- the origin of an open entry; each open entry has one
 abbrev pub origin_in : Option (Origin Push) → Origin Push
@@ -26,27 +26,27 @@ origin_in None = (0, record { square = 0; dir = D })
 origin_in (Some o) = o
 
 -- an entry of the map as an open one
-abbrev pub open_entry : Closed → Entry Scene Push
+abbrev pub open_entry : Closed → OpenEntry Scene Push
 open_entry e = (e.0, origin_in e.1)
 
 -- the entries before an index are closed, and those from it on are open
 abbrev pub seen_of : ℕ → List Closed → List Closed
 seen_of start es = take start es
 
-abbrev pub open_of : ℕ → List Closed → List (Entry Scene Push)
+abbrev pub open_of : ℕ → List Closed → List (OpenEntry Scene Push)
 open_of start es = map open_entry (drop start es)
 
 -- an offer enters: its position is offered with its origin, unless it is closed
-abbrev pub let_in : List Closed → List (Entry Scene Push) → Entry Scene Push → List (Entry Scene Push)
+abbrev pub let_in : List Closed → List (OpenEntry Scene Push) → OpenEntry Scene Push → List (OpenEntry Scene Push)
 let_in seen waiting e = if is_some (lookup (same_scene e.0) seen) then waiting else offered waiting e.0 e.1
 
 -- the open entries after offers have entered in order
-abbrev pub all_let_in : List Closed → List (Entry Scene Push) → List (Entry Scene Push) → List (Entry Scene Push)
+abbrev pub all_let_in : List Closed → List (OpenEntry Scene Push) → List (OpenEntry Scene Push) → List (OpenEntry Scene Push)
 all_let_in seen waiting offers = fold (let_in seen) waiting offers
 
 -- what is found: the entries of the map before an index are closed, and those from it on are open, once the pending
 -- offers have entered
-abbrev pub found_view : ℕ → ℕ → ℕ → List Closed → List (Entry Scene Push) → FoundView
+abbrev pub found_view : ℕ → ℕ → ℕ → List Closed → List (OpenEntry Scene Push) → FoundView
 found_view boxes squares start es pending = record {
   boxes = boxes;
   squares = squares;
@@ -55,7 +55,7 @@ found_view boxes squares start es pending = record {
 }
 
 -- what is found is the same for both maps, each with its pending offers
-abbrev pub StaysFound : ℕ → List Closed → List (Entry Scene Push) → List Closed → List (Entry Scene Push) → Type 0
+abbrev pub StaysFound : ℕ → List Closed → List (OpenEntry Scene Push) → List Closed → List (OpenEntry Scene Push) → Type 0
 StaysFound start es pending others other =
     (boxes squares : ℕ) → found_view boxes squares start others other ≡ found_view boxes squares start es pending
 
@@ -69,11 +69,11 @@ with_entered v shares share rank ss = record {
 }
 
 -- the offer of a rank's successor, if its position is of the share
-abbrev pub offer_of : ℕ → ℕ → ℕ → Successor → List (Entry Scene Push)
+abbrev pub offer_of : ℕ → ℕ → ℕ → Successor → List (OpenEntry Scene Push)
 offer_of shares share rank s = if share_of shares s.position == share then (s.position, (rank, s.push)) ∷ [] else []
 
 -- the offers of a rank's successors
-abbrev pub offers_of : ℕ → ℕ → ℕ → List Successor → List (Entry Scene Push)
+abbrev pub offers_of : ℕ → ℕ → ℕ → List Successor → List (OpenEntry Scene Push)
 offers_of shares share rank [] = []
 offers_of shares share rank (s ∷ ss) = offer_of shares share rank s ++ offers_of shares share rank ss
 
@@ -88,7 +88,7 @@ is_least None o = false
 is_least (Some p) o = not (is_lt (origin_cmp push_cmp o p))
 
 -- an offer of a position changes nothing: it is closed, or open with an origin that is no greater
-abbrev pub keeps : List Closed → List (Entry Scene Push) → Scene → Origin Push → Bool
+abbrev pub keeps : List Closed → List (OpenEntry Scene Push) → Scene → Origin Push → Bool
 keeps seen waiting m o = is_some (lookup (same_scene m) seen) || is_least (origin_of waiting m) o
 
 -- each of the squares is less than n
@@ -106,8 +106,8 @@ pub record AllFit (v : FoundView) (ss : List Successor) : Type 0 where
   pub each : (i : ℕ) (s : Successor) → slice_get ss i ≡ Some s → FitsGrid v.boxes v.squares s.position
 
 -- no origin of an open entry comes after o
-abbrev pub NoneExceed : List (Entry Scene Push) → Origin Push → Type 0
-NoneExceed ws o = (i : ℕ) (x : Entry Scene Push) → slice_get ws i ≡ Some x → is_gt (origin_cmp push_cmp x.1 o) ≡ false
+abbrev pub NoneExceed : List (OpenEntry Scene Push) → Origin Push → Type 0
+NoneExceed ws o = (i : ℕ) (x : OpenEntry Scene Push) → slice_get ws i ≡ Some x → is_gt (origin_cmp push_cmp x.1 o) ≡ false
 
 -- the closed entries at first: a position without an origin, or none
 abbrev pub first_entries : Option Scene → List Closed

@@ -4,7 +4,7 @@ ghost use Rattle.std.specs.Prelude.{Some, drop, length, nat_eq, replicate, slice
 ghost use Rattle.grid.specs.Rising.{is_rising};
 ghost use Rattle.std.specs.Cmp.Lexicographic.{pointwise};
 ghost use Rattle.store.specs.Entries.{same_scene};
-ghost use Rattle.store.specs.inside.KeyRows.{Suits, high_bytes, joined_bytes, key_digest, low_bytes, padded};
+ghost use Rattle.store.specs.inside.KeyRows.{Suits, high_bytes, joined_bytes, key_digest, low_bytes, zero_padded};
 
 use arrayvec::ArrayVec;
 use grid::{MAX_BOXES, Position, Square};
@@ -146,8 +146,8 @@ fn write_rows(low: &mut [u8], high: &mut [u8], boxes: &[Square], player: Square)
     requires high { high.old ≡ replicate (length high.old) 0 }
     requires capacity { length boxes.now < length low.old }
     requires high_room { 0 < length high.old → length boxes.now < length high.old }
-    ensures low { low.new ≡ padded (length low.old) (low_bytes (player ∷ boxes.now)) }
-    ensures high { high.new ≡ padded (length high.old) (high_bytes (player ∷ boxes.now)) }
+    ensures low { low.new ≡ zero_padded (length low.old) (low_bytes (player ∷ boxes.now)) }
+    ensures high { high.new ≡ zero_padded (length high.old) (high_bytes (player ∷ boxes.now)) }
 {
     if low.len() == SHORT && high.len() == SHORT {
         write_short(low, high, boxes, player);
@@ -161,11 +161,11 @@ fn write_rows(low: &mut [u8], high: &mut [u8], boxes: &[Square], player: Square)
 // that the compiler does not vectorize the loop.
 #[inline(always)]
 fn write_short(low: &mut [u8], high: &mut [u8], boxes: &[Square], player: Square)
-    requires low { low.old ≡ padded SHORT [] }
-    requires high { high.old ≡ padded SHORT [] }
+    requires low { low.old ≡ zero_padded SHORT [] }
+    requires high { high.old ≡ zero_padded SHORT [] }
     requires capacity { length boxes.now < SHORT }
-    ensures low { low.new ≡ padded SHORT (low_bytes (player ∷ boxes.now)) }
-    ensures high { high.new ≡ padded SHORT (high_bytes (player ∷ boxes.now)) }
+    ensures low { low.new ≡ zero_padded SHORT (low_bytes (player ∷ boxes.now)) }
+    ensures high { high.new ≡ zero_padded SHORT (high_bytes (player ∷ boxes.now)) }
 {
     let first = low_byte(player);
     let first_high = high_byte(player);
@@ -185,7 +185,7 @@ fn write_short(low: &mut [u8], high: &mut [u8], boxes: &[Square], player: Square
 fn write_low(row: &mut [u8], boxes: &[Square], player: Square)
     requires zeros { row.old ≡ replicate (length row.old) 0 }
     requires capacity { length boxes.now < length row.old }
-    ensures { row.new ≡ padded (length row.old) (low_bytes (player ∷ boxes.now)) }
+    ensures { row.new ≡ zero_padded (length row.old) (low_bytes (player ∷ boxes.now)) }
 {
     let first = low_byte(player);
     row[0] = first;
@@ -200,7 +200,7 @@ fn write_low(row: &mut [u8], boxes: &[Square], player: Square)
 fn write_high(row: &mut [u8], boxes: &[Square], player: Square)
     requires zeros { row.old ≡ replicate (length row.old) 0 }
     requires capacity { 0 < length row.old → length boxes.now < length row.old }
-    ensures { row.new ≡ padded (length row.old) (high_bytes (player ∷ boxes.now)) }
+    ensures { row.new ≡ zero_padded (length row.old) (high_bytes (player ∷ boxes.now)) }
 {
     if row.len() <= boxes.len() {
         return;

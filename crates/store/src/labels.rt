@@ -2,7 +2,7 @@
 ghost use Rattle.std.specs.Prelude.{◌≡◌, ◌+◌, ◌<◌, ◌≤◌, [], length, map, slice_get, slice_set, IfOk, OnErr, Some};
 ghost use Rattle.store.specs.FoundView.{FitsGrid};
 ghost use Rattle.store.specs.Places.{IsPlaceOf};
-ghost use Rattle.store.specs.Visited.{Entry, HasEntered, entries_of, entry_of, with_least};
+ghost use Rattle.store.specs.Visited.{Node, HasEntered, entries_of, entry_of, with_least};
 ghost use Rattle.store.specs.inside.KeyRows.{SuitsLevel};
 ghost use Rattle.successors.specs.Distances.{AreDistinct};
 
@@ -68,7 +68,7 @@ impl<const N: usize, const M: usize> Labels<N, M> {
     /// The position at a place.
     pub(crate) fn position(&self, place: usize) -> Position
         requires { place < length self.now.entries }
-        ensures { (x : Entry) → slice_get self.now.entries place ≡ Some x → result ≡ x.position }
+        ensures { (x : Node) → slice_get self.now.entries place ≡ Some x → result ≡ x.position }
     {
         let Some((key, _)) = self.map.get_index(place) else {
             unreachable!()
@@ -79,7 +79,7 @@ impl<const N: usize, const M: usize> Labels<N, M> {
     /// The label of the position at a place.
     pub(crate) fn label(&self, place: usize) -> Label
         requires { place < length self.now.entries }
-        ensures { (x : Entry) → slice_get self.now.entries place ≡ Some x → (result.pushes ≡ x.pushes) ×
+        ensures { (x : Node) → slice_get self.now.entries place ≡ Some x → (result.pushes ≡ x.pushes) ×
             (result.least ≡ x.least) × (result.parent ≡ x.parent) }
     {
         let Some((_, label)) = self.map.get_index(place) else {
@@ -117,7 +117,7 @@ impl<const N: usize, const M: usize> Labels<N, M> {
         requires { place < length self.old.entries }
         ensures boxes { self.new.boxes ≡ self.old.boxes }
         ensures squares { self.new.squares ≡ self.old.squares }
-        ensures set { (x : Entry) → slice_get self.old.entries place ≡ Some x →
+        ensures set { (x : Node) → slice_get self.old.entries place ≡ Some x →
             self.new.entries ≡ slice_set self.old.entries place (with_least least x) }
     {
         self.map[place].least = least;

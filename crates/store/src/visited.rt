@@ -2,7 +2,7 @@
 ghost use Rattle.std.specs.Prelude.{◌≡◌, ◌<◌, ◌≤◌, [], length, map, slice_get, slice_set, IfOk, OnErr, Some};
 ghost use Rattle.store.specs.FoundView.{FitsGrid};
 ghost use Rattle.store.specs.Places.{IsPlaceOf};
-ghost use Rattle.store.specs.Visited.{Entry, HasEntered, entry_of, with_least};
+ghost use Rattle.store.specs.Visited.{Node, HasEntered, entry_of, with_least};
 ghost use Rattle.successors.specs.Distances.{AreDistinct};
 
 use crate::labels::Labels;
@@ -94,7 +94,7 @@ impl Visited {
     /// The position at a place below [`Visited::len`].
     pub fn position(&self, place: usize) -> Position
         requires { place < length self.now.entries }
-        ensures { (x : Entry) → slice_get self.now.entries place ≡ Some x → result ≡ x.position }
+        ensures { (x : Node) → slice_get self.now.entries place ≡ Some x → result ≡ x.position }
     {
         in_each!(AnyLabels, &self.labels, labels => labels.position(place))
     }
@@ -102,7 +102,7 @@ impl Visited {
     /// The label of the position at a place below [`Visited::len`].
     pub fn label(&self, place: usize) -> Label
         requires { place < length self.now.entries }
-        ensures { (x : Entry) → slice_get self.now.entries place ≡ Some x → (result.pushes ≡ x.pushes) ×
+        ensures { (x : Node) → slice_get self.now.entries place ≡ Some x → (result.pushes ≡ x.pushes) ×
             (result.least ≡ x.least) × (result.parent ≡ x.parent) }
     {
         in_each!(AnyLabels, &self.labels, labels => labels.label(place))
@@ -139,7 +139,7 @@ impl Visited {
         requires { place < length self.old.entries }
         ensures boxes { self.new.boxes ≡ self.old.boxes }
         ensures squares { self.new.squares ≡ self.old.squares }
-        ensures set { (x : Entry) → slice_get self.old.entries place ≡ Some x →
+        ensures set { (x : Node) → slice_get self.old.entries place ≡ Some x →
             self.new.entries ≡ slice_set self.old.entries place (with_least least x) }
     {
         in_each!(AnyLabels, &mut self.labels, labels => labels.set_least(place, least))

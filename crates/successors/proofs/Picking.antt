@@ -15,7 +15,7 @@ use Rattle.doom.specs.Sums.{HaveDead}
 use Rattle.doom.proofs.lemmas.Bounds.{lower_once}
 use Rattle.successors.specs.declared.parcel.Successor.{Successor}
 use Rattle.successors.specs.Layered.{IsIn}
-use Rattle.successors.specs.Tasks.{Task}
+use Rattle.successors.specs.Problems.{Problem}
 use Rattle.successors.specs.Capping.{capped, uncapped}
 use Rattle.successors.specs.ParcelView.{AreSuccessors, FitLevel}
 use Rattle.successors.specs.inside.Sums.{AreSums}
@@ -107,11 +107,11 @@ pub picked_fit : (board : Board) (room : ℕ) (before after : List Successor) �
 picked_fit board room before after picks fit i s at = let w = (picked_from picks s (i, at)).0 in fit w.0 s w.1
 
 -- the successors under a cap are those of the level with it
-pub under_cap : (task : Task) (board : Board) (cap : Option ℕ) → board ≡ task.board → task.cap ≡ cap
+pub under_cap : (problem : Problem) (board : Board) (cap : Option ℕ) → board ≡ problem.board → problem.cap ≡ cap
     → (k : ℕ) (n : Scene) (ss : List Successor)
-    → AreSuccessors (capped board cap) k n ss → AreSuccessors task k n ss
-under_cap task board cap same e k n ss all =
-    subst (λ (t : Task). AreSuccessors t k n ss) (λ i. record { board = same i; cap = sym e i }) all
+    → AreSuccessors (capped board cap) k n ss → AreSuccessors problem k n ss
+under_cap problem board cap same e k n ss all =
+    subst (λ (t : Problem). AreSuccessors t k n ss) (λ i. record { board = same i; cap = sym e i }) all
 
 -- the sums beside successors, where both were lent and given back
 pub sums_refilled : (n : ℕ) (slots lent back : List Successor) (sums lent_sums back_sums : List ℕ)

@@ -6,7 +6,7 @@ use Rattle.grid.specs.Board.{Board, Scene, next}
 use Rattle.grid.specs.Plays.{Play}
 use Rattle.area.specs.Area.{IsNorm}
 use Rattle.doom.specs.Deadlocks.{Undoomed}
-use Rattle.successors.specs.Tasks.{Task}
+use Rattle.successors.specs.Problems.{Problem}
 use Rattle.successors.specs.Capping.{Admits}
 use Rattle.grid.specs.Squares.{insert, remove}
 
@@ -20,5 +20,5 @@ abbrev pub IsSuccessor : Board → Scene → Push → Scene → Type 0
 IsSuccessor board n p m = (ds : List Dir) × (t : Scene) × Play board (Undoomed board) n ds (p ∷ []) t × IsNorm board t m
 
 -- m is such a successor of a position of layer k, and is admitted in the next layer
-abbrev pub IsSuccessorIn : Task → ℕ → Scene → Push → Scene → Type 0
-IsSuccessorIn task k n p m = IsSuccessor task.board n p m × Admits task (suc k) m
+abbrev pub IsSuccessorIn : Problem → ℕ → Scene → Push → Scene → Type 0
+IsSuccessorIn problem k n p m = IsSuccessor problem.board n p m × Admits problem (suc k) m

@@ -1,5 +1,5 @@
 pub mod Layered
-pub mod Tasks
+pub mod Problems
 pub mod Capping
 pub mod Reaching
 pub mod Distances

@@ -8,25 +8,25 @@ use Rattle.grid.specs.Lawful.{IsLevel}
 use Rattle.doom.specs.Deadlocks.{Undoomed}
 use Rattle.successors.specs.declared.parcel.Successor.{Successor}
 use Rattle.successors.specs.declared.expansion.RankedPosition.{RankedPosition}
-use Rattle.successors.specs.Tasks.{Task}
+use Rattle.successors.specs.Problems.{Problem}
 use Rattle.successors.specs.Capping.{capped}
 use Rattle.successors.specs.Reaching.{IsLayerOf}
 use Rattle.successors.specs.Expansion.{IsSuccessor, IsSuccessorIn}
 
 -- a parcel: the level with its cap, a layer's number, a rank of it, and the successors of the position with that rank
 pub record ParcelView : Type 0 where
-  pub level : Task
+  pub level : Problem
   pub layer : ℕ
   pub rank : ℕ
   pub successors : List Successor
 
 -- ss is those undoomed successors of a position n of layer k that are admitted in the next one, with their pushes, each
 -- once, in the order of the pushes
-pub record AreSuccessors (task : Task) (k : ℕ) (n : Scene) (ss : List Successor) : Type 0 where
-  pub each : (i : ℕ) (s : Successor) → slice_get ss i ≡ Some s → IsSuccessorIn task k n s.push s.position
+pub record AreSuccessors (problem : Problem) (k : ℕ) (n : Scene) (ss : List Successor) : Type 0 where
+  pub each : (i : ℕ) (s : Successor) → slice_get ss i ≡ Some s → IsSuccessorIn problem k n s.push s.position
   pub rise : (i j : ℕ) (s t : Successor) → i < j → slice_get ss i ≡ Some s → slice_get ss j ≡ Some t →
       push_cmp s.push t.push ≡ Less
-  pub whole : (p : Push) (m : Scene) → IsSuccessorIn task k n p m → (i : ℕ) ×
+  pub whole : (p : Push) (m : Scene) → IsSuccessorIn problem k n p m → (i : ℕ) ×
       (slice_get ss i ≡ Some (record { push = p; position = m }))
 
 -- each successor is a position of the level

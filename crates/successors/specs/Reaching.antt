@@ -7,7 +7,7 @@ use Rattle.grid.specs.Plays.{Play}
 use Rattle.area.specs.Area.{IsNorm}
 use Rattle.doom.specs.Deadlocks.{Undoomed}
 use Rattle.successors.specs.Layered.{IsLayer}
-use Rattle.successors.specs.Tasks.{Task, IsAdmitted}
+use Rattle.successors.specs.Problems.{Problem, IsAdmitted}
 
 -- ps are the pushes of a play from the start, through undoomed positions alone, to a state of the normal form n
 abbrev pub Reaches : Board → List Push → Scene → Type 0
@@ -16,12 +16,12 @@ Reaches board ps n =
 
 -- xs is layer k of the level under its cap: the admitted normal forms whose leads have length k, in the order of
 -- their leads
-abbrev pub IsLayerOf : Task → ℕ → List Scene → Type 0
-IsLayerOf task k xs = IsLayer push_cmp (Reaches task.board) (IsAdmitted task.board task.cap) k xs
+abbrev pub IsLayerOf : Problem → ℕ → List Scene → Type 0
+IsLayerOf problem k xs = IsLayer push_cmp (Reaches problem.board) (IsAdmitted problem.board problem.cap) k xs
 
 -- layers holds the first layers of the level, layer 0 first
-abbrev pub AreLayersOf : Task → List (List Scene) → Type 0
-AreLayersOf task layers = (j : ℕ) (xs : List Scene) → slice_get layers j ≡ Some xs → IsLayerOf task j xs
+abbrev pub AreLayersOf : Problem → List (List Scene) → Type 0
+AreLayersOf problem layers = (j : ℕ) (xs : List Scene) → slice_get layers j ≡ Some xs → IsLayerOf problem j xs
 
 -- how many elements the lists have together
 abbrev pub total : {A : Type 0} → List (List A) → ℕ

@@ -12,7 +12,7 @@ ghost use Rattle.successors.specs.Expanding.{HasPushesOf};
 ghost use Rattle.successors.specs.Expansion.{IsSuccessor, after_push};
 
 use crate::problem::Problem;
-use crate::pushing::{Parent, make_after};
+use crate::pushing::{ParentPosition, make_after};
 use area::{MAX_PUSHES, Scratch, possible_pushes};
 use arrayvec::ArrayVec;
 use doom::Dangers;
@@ -38,7 +38,7 @@ impl<'p> Model for Expander<'p> {
     ghost Value = { ExpanderView };
 
     ghost view = { λ a. record
-        { task = a.problem.now; reached = a.scratch.reached; boxes = a.scratch.boxes; pushes = a.pushes.items } };
+        { problem = a.problem.now; reached = a.scratch.reached; boxes = a.scratch.boxes; pushes = a.pushes.items } };
 
     ghost invariant = { λ a. (a.scratch.size ≡ length a.problem.now.board.cells) ×
         AreDangers a.problem.now.board a.scratch.boxes a.dangers.words.items };
@@ -47,7 +47,7 @@ impl<'p> Model for Expander<'p> {
 impl<'p> Expander<'p> {
     /// All the memory that later calls need. The only error is running out of memory.
     pub fn new(alloc: Global, problem: &'p Problem) -> Result<Expander<'p>, AllocError>
-        ensures { IfOk result (λ expander. expander.task ≡ problem.now) }
+        ensures { IfOk result (λ expander. expander.problem ≡ problem.now) }
     {
         let scratch = Scratch::new(alloc, problem.level())?;
         let mut dangers = Dangers::unknown();
@@ -62,8 +62,8 @@ impl<'p> Expander<'p> {
 
     /// Finds the pushes that the player can make in a position after walks. Takes no memory.
     pub fn find_pushes(&mut self, position: &Position)
-        requires fits { FitsLevel self.old.task.board position.now }
-        ensures task { self.new.task ≡ self.old.task }
+        requires fits { FitsLevel self.old.problem.board position.now }
+        ensures problem { self.new.problem ≡ self.old.problem }
         ensures found { HasPushesOf self.new position.now }
     {
         let problem = self.problem;
@@ -95,14 +95,14 @@ impl<'p> Expander<'p> {
     /// that position, so that no play solves it. Takes no memory.
     pub fn try_push(&mut self, position: &Position, push: Push) -> Option<Position>
         requires found { HasPushesOf self.old position.now }
-        requires possible { CanPush self.old.task.board position.now push }
+        requires possible { CanPush self.old.problem.board position.now push }
         ensures made { IfSome result
-            (λ after. IsNorm self.old.task.board (after_push self.old.task.board position.now push) after
-            × FitsLevel self.old.task.board after) }
-        ensures successor { Undoomed self.old.task.board position.now →
-            MatchOption result ((m : Scene) → ¬ (IsSuccessor self.old.task.board position.now push m))
-            (λ after. IsSuccessor self.old.task.board position.now push after) }
-        ensures lost { IfNone result (IsLost self.old.task.board (after_push self.old.task.board position.now push)) }
+            (λ after. IsNorm self.old.problem.board (after_push self.old.problem.board position.now push) after
+            × FitsLevel self.old.problem.board after) }
+        ensures successor { Undoomed self.old.problem.board position.now →
+            MatchOption result ((m : Scene) → ¬ (IsSuccessor self.old.problem.board position.now push m))
+            (λ after. IsSuccessor self.old.problem.board position.now push after) }
+        ensures lost { IfNone result (IsLost self.old.problem.board (after_push self.old.problem.board position.now push)) }
         ensures kept { self.new ≡ self.old }
     {
         let problem = self.problem;
@@ -153,7 +153,7 @@ fn push_in(
     ensures lost { IfNone result (IsLost problem.now.board (after_push problem.now.board position.now push)) }
     ensures kept { scratch.new ≡ scratch.old }
 {
-    let parent = Parent {
+    let parent = ParentPosition {
         level: problem.level(),
         dead: problem.dead(),
         position,

@@ -8,7 +8,7 @@ use crate::dealing::Deal;
 use crate::parcel::{Buffers, Parcel};
 use crate::problem::Problem;
 use crate::pruning::keep_admitted;
-use crate::pushing::{Parent, successors_by};
+use crate::pushing::{ParentPosition, successors_by};
 use area::Scratch;
 use doom::{Bound, Dead};
 use grid::{Level, Position};
@@ -108,7 +108,7 @@ fn successors_of(
     let position = &ranked.position;
     area::possible_pushes(level, position, scratch, &mut buffers.pushes);
     buffers.dangers.find(level, dead, scratch);
-    let parent = Parent {
+    let parent = ParentPosition {
         level,
         dead,
         position,

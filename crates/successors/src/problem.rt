@@ -24,10 +24,10 @@ pub struct Problem {
 impl Model for Problem {
     ghost use Rattle.std.specs.Prelude.{◌≡◌};
     ghost use Rattle.std.specs.Arc.{arc_value};
-    ghost use Rattle.successors.specs.Tasks.{Task};
+    ghost use Rattle.successors.specs.Problems.{Problem};
     ghost use Rattle.successors.specs.Capping.{HasBound, capped};
 
-    ghost Value = { Task };
+    ghost Value = { Problem };
 
     ghost view = { λ a. capped (arc_value a.level) a.cap };
 

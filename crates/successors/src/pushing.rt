@@ -24,7 +24,7 @@ use grid::{Level, MAX_BOXES, Position, Push, Square};
 /// A position to expand, and what its pushes are judged by: the level, its dead squares, and the squares where pushes
 /// may freeze a box.
 #[derive(Drop)]
-pub(crate) struct Parent<'a> {
+pub(crate) struct ParentPosition<'a> {
     pub(crate) level: &'a Level,
     pub(crate) dead: &'a Dead,
     pub(crate) position: &'a Position,
@@ -34,7 +34,7 @@ pub(crate) struct Parent<'a> {
 /// Writes the undoomed positions that the pushes lead to over the first slots, and returns their number. The last
 /// flood was that of the position.
 pub(crate) fn successors_by(
-    parent: &Parent<'_>,
+    parent: &ParentPosition<'_>,
     pushes: &[Push],
     scratch: &mut Scratch,
     slots: &mut Slots,
@@ -76,7 +76,7 @@ fn box_from(boxes: &[Square], place: usize, square: Square) -> usize {
 // is the sum of its box squares, and `place` is where the pushed box may be found. The position is made in its slot, so
 // that nothing is copied.
 fn append_successor(
-    parent: &Parent<'_>,
+    parent: &ParentPosition<'_>,
     total: u32,
     place: usize,
     push: Push,
@@ -158,7 +158,7 @@ fn put_sum(sums: &mut ArrayVec<u32, MAX_SUCCESSORS>, count: usize, sum: u32)
 // Writes a push, and the successor that it leads to, into a slot. Returns `false` exactly if it leads to none. The last
 // flood was that of the position before the push.
 fn make_successor(
-    parent: &Parent<'_>,
+    parent: &ParentPosition<'_>,
     place: usize,
     push: Push,
     scratch: &mut Scratch,
@@ -182,7 +182,7 @@ fn make_successor(
 /// Makes a position the normal one after a push and returns `true`, or returns `false` if the pushed box dooms it. The
 /// last flood was that of the position before the push. `place` is where the pushed box may be found.
 pub(crate) fn make_after(
-    parent: &Parent<'_>,
+    parent: &ParentPosition<'_>,
     place: usize,
     push: Push,
     scratch: &mut Scratch,
@@ -218,7 +218,7 @@ pub(crate) fn make_after(
 
 // Whether the pushed box dooms the position after a push to a square that is not dead.
 fn is_doomed(
-    parent: &Parent<'_>,
+    parent: &ParentPosition<'_>,
     push: Push,
     ahead: Square,
     moved: &Position,

@@ -186,9 +186,9 @@ pub record HasEntries (bytes : List ℕ) (left : Collection) (entries : List Ent
   pub each : AllZip IsEntry entries founds
 
 -- the entry of a board, with its level
-entry_of : (board : BoardEntry) (entry : Entry) (found : Found) → entry ≡ record { name = board.name; first_line = board.first_line; board = board.board }
+entry_is : (board : BoardEntry) (entry : Entry) (found : Found) → entry ≡ record { name = board.name; first_line = board.first_line; board = board.board }
     → IsBoardEntry board found → IsEntry entry found
-entry_of board entry found e is = subst (λ (x : Entry). IsEntry x found) (sym e) (record { name = is.name; first_line = is.first_line; board = is.board })
+entry_is board entry found e is = subst (λ (x : Entry). IsEntry x found) (sym e) (record { name = is.name; first_line = is.first_line; board = is.board })
 
 -- an entry more
 pub HasEntries-more : {bytes : List ℕ} {first : Collection} {entries : List Entry} (last : Collection) (board : BoardEntry) (entry : Entry)
@@ -199,7 +199,7 @@ HasEntries-more {bytes} {first} {entries} last board entry is next e =
     record {
       founds = is.founds ++ next.0 ∷ [];
       read = next.2;
-      each = AllZip-last IsEntry entries is.founds entry next.0 is.each (entry_of board entry next.0 e next.1);
+      each = AllZip-last IsEntry entries is.founds entry next.0 is.each (entry_is board entry next.0 e next.1);
     }
 
 length-cut : (rest : List (List ℕ)) → length (cut_lines rest) ≡ length rest

@@ -5,7 +5,7 @@ use Rattle.grid.specs.declared.cell.Cell.{Cell}
 use Rattle.grid.specs.declared.cell.Cell.TheVariants.{Floor}
 use Rattle.std.proofs.lemmas.List.{length-replicate, append-nil}
 use Rattle.xsb.specs.Rows.{IsItem, counted, IsRow, done, more}
-use Rattle.xsb.specs.inside.Reading.{capped, HasNoItem, BeginsWithItem}
+use Rattle.xsb.specs.inside.Reading.{saturated, HasNoItem, BeginsWithItem}
 use Rattle.xsb.specs.declared.items.Run.{Run}
 use Rattle.xsb.specs.Boards.{is_floor, cut_row, padded}
 use Rattle.counts.specs.Counts.{repeats}
@@ -95,8 +95,8 @@ item-cells (counted digits n b c means e) = let some = means_some digits n means
 -- how far a row was read: its cells so far, and their number without floor at the end
 pub record IsMeasured (piece rest : List ℕ) (front : List Cell) (size kept : ℕ) : Type 0 where
   pub front_is : IsFront piece rest front
-  pub size_is : size ≡ capped (length front)
-  pub kept_is : kept ≡ capped (length (cut_row front))
+  pub size_is : size ≡ saturated (length front)
+  pub kept_is : kept ≡ saturated (length (cut_row front))
 
 pub IsMeasured-none : (piece : List ℕ) → IsMeasured piece piece [] 0 0
 IsMeasured-none piece = record { front_is = IsFront-none piece; size_is = refl; kept_is = refl }
@@ -119,7 +119,7 @@ pub IsMeasured-other : {piece rest after : List ℕ} {front : List Cell} {size k
     more ≡ min (size + run.count) (2 ^ 64 - 1) → is_floor run.cell ≡ false → IsMeasured piece after (front ++ replicate run.count run.cell) more more
 IsMeasured-other {piece} {rest} {after} {front} {size} {kept} {more} run is begins e other =
     let long = length-append front (replicate run.count run.cell) in let n = length-replicate run.count run.cell in let was = is.size_is in
-    let size_is : more ≡ capped (length (front ++ replicate run.count run.cell)) = omega arith in
+    let size_is : more ≡ saturated (length (front ++ replicate run.count run.cell)) = omega arith in
     record {
       front_is = IsFront-more is.front_is begins.1 begins.2;
       size_is = size_is;
@@ -129,7 +129,7 @@ IsMeasured-other {piece} {rest} {after} {front} {size} {kept} {more} run is begi
 
 -- a row that is read to its end
 pub IsMeasured-all : {piece rest : List ℕ} {front : List Cell} {size kept : ℕ} → IsMeasured piece rest front size kept → length rest ≡ 0 → (row : List Cell) ×
-    IsRow piece row × (kept ≡ capped (length (cut_row row)))
+    IsRow piece row × (kept ≡ saturated (length (cut_row row)))
 IsMeasured-all {piece} {rest} {front} is e = (front ++ [], is.front_is.onto [] (empty-row rest e), rw (append-nil front) is.kept_is)
 
 -- how far a row was appended: its cells so far, as far as there are columns, stand after what was there

@@ -13,7 +13,7 @@ use Rattle.xsb.specs.declared.sizes.Size.{Size}
 use Rattle.xsb.specs.Boards.{cols_of, cut_row, padded}
 use Rattle.xsb.proofs.CutEnds.{take-zero}
 use Rattle.xsb.specs.Rows.{IsRow, IsRowLine, IsTextLine}
-use Rattle.xsb.specs.inside.Reading.{capped, IsSize}
+use Rattle.xsb.specs.inside.Reading.{saturated, IsSize}
 
 -- the pieces that have a byte
 abbrev pub has_byte : List ℕ → Bool
@@ -47,7 +47,7 @@ some_of-last pieces piece some = filter-append has_byte pieces (piece ∷ []) �
 -- one piece more
 pub IsCounted-more : {pieces : List (List ℕ)} {rows : List (List Cell)} {size : Size} {m n cols : ℕ} (piece : List ℕ) (row : List Cell) →
     IsCounted pieces rows size → 0 < length piece → IsRow piece row →
-    n ≡ capped (length (cut_row row)) → m ≡ min (size.rows + 1) (2 ^ 64 - 1) → cols ≡ max size.cols n →
+    n ≡ saturated (length (cut_row row)) → m ≡ min (size.rows + 1) (2 ^ 64 - 1) → cols ≡ max size.cols n →
     IsCounted (pieces ++ piece ∷ []) (rows ++ row ∷ []) (record { rows = m; cols = cols })
 IsCounted-more {pieces} {rows} {size} {m} {n} {cols} piece row is some is_row e f g =
     let a = is.size_is.row_count in let b = is.size_is.col_count in

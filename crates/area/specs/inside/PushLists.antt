@@ -9,8 +9,8 @@ use Rattle.area.specs.Reach.{Reach}
 use Rattle.area.specs.inside.Pushable.{IsPushable}
 
 -- a flood allows a push: someone on a square that it reached can make it, past the boxes round which it went
-abbrev pub Allows : Board → Reach → Push → Type 0
-Allows board reach p = IsPushable board reach.boxes reach.reached p.dir p.square
+abbrev pub AllowsPush : Board → Reach → Push → Type 0
+AllowsPush board reach p = IsPushable board reach.boxes reach.reached p.dir p.square
 
 -- the push is of a lesser square, or of this one and in one of the first directions
 abbrev pub IsBefore : ℕ → ℕ → Push → Type 0
@@ -19,7 +19,7 @@ IsBefore square seen p = (p.square < square) ⊎ ((p.square ≡ square) × (dir_
 -- ps is the pushes that a flood allows, of lesser squares and of this one in the first directions, each once, in their
 -- order
 abbrev pub AreAllowedBefore : Board → Reach → ℕ → ℕ → List Push → Type 0
-AreAllowedBefore board reach square seen ps = AreAll (λ p. p) (λ p. Allows board reach p × IsBefore square seen p) ps
+AreAllowedBefore board reach square seen ps = AreAll (λ p. p) (λ p. AllowsPush board reach p × IsBefore square seen p) ps
 
 -- in the midst of the boxes: the list has the pushes of lesser squares than one, at most four for each of the boxes
 -- before, and the boxes that are left are those from there on

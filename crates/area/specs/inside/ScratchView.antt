@@ -6,8 +6,8 @@ use Rattle.area.specs.declared.scratch.Scratch.TheInside.{Inside}
 use Rattle.area.specs.Reach.{Reach}
 use Rattle.area.specs.Words.{squares_of}
 
-abbrev pub view_of : Inside → Reach
-view_of a = record { size = a.squares; reached = squares_of a.reached; boxes = squares_of a.boxes }
+abbrev pub scratch_view : Inside → Reach
+scratch_view a = record { size = a.squares; reached = squares_of a.reached; boxes = squares_of a.boxes }
 
 -- there is a mark and a place in the queue for each square, and each set has room for the squares
 pub record IsReady (a : Inside) : Type 0 where

@@ -15,8 +15,8 @@ AreBlocked base boxes marks =
     (contains boxes q ≡ false → slice_index marks q < base)
 
 -- the square next to q in a direction, where it is neither a wall nor a box's, is reached, with one step more at most
-abbrev pub IsClosed : Board → ℕ → (ℕ → ℕ) → ℕ → Dir → Type 0
-IsClosed board base mark q d =
+abbrev pub ReachesNext : Board → ℕ → (ℕ → ℕ) → ℕ → Dir → Type 0
+ReachesNext board base mark q d =
     is_wall board (next board q d) ≡ false → mark (next board q d) ≢ base → (base < mark (next board q d)) ×
     (mark (next board q d) ≤ suc (mark q))
 
@@ -31,7 +31,7 @@ pub record IsSpread (board : Board) (base from : ℕ) (mark : ℕ → ℕ) : Typ
   pub start : mark from ≡ suc base
   pub free : (q : ℕ) → base < mark q → is_wall board q ≡ false
   pub came : (q : ℕ) → base < mark q → (q ≡ from) ⊎ HasCome board base mark q
-  pub closed : (q : ℕ) → base < mark q → (d : Dir) → IsClosed board base mark q d
+  pub closed : (q : ℕ) → base < mark q → (d : Dir) → ReachesNext board base mark q d
 
 -- after a search round boxes: they have the mark `base` and nothing else has, and all that walks reach is marked
 pub record IsSearched (board : Board) (boxes : Squares) (base from : ℕ) (marks : List ℕ) : Type 0 where
@@ -63,8 +63,8 @@ pub record IsSpreading (board : Board) (base from : ℕ) (mark place : ℕ → �
   pub bound : (i : ℕ) → i < tail → mark (place i) ≤ suc base + i
   pub sorted : (i j : ℕ) → i ≤ j → j < tail → mark (place i) ≤ mark (place j)
   pub close : (i j : ℕ) → head ≤ i → i < tail → j < tail → mark (place j) ≤ suc (mark (place i))
-  pub done : (i : ℕ) → i < head → i < tail → (d : Dir) → IsClosed board base mark (place i) d
-  pub now : (d : Dir) → dir_number d < seen → IsClosed board base mark (place head) d
+  pub done : (i : ℕ) → i < head → i < tail → (d : Dir) → ReachesNext board base mark (place i) d
+  pub now : (d : Dir) → dir_number d < seen → ReachesNext board base mark (place head) d
   pub order : head ≤ tail
 
 -- a look at the square n, in marks and queue as they stand: a wall, a box or a square that has been reached passes,

@@ -25,12 +25,12 @@ AreFinished limit before layer false after = AreStill layer before after × Pass
 -- the books of a search by the configuration were at work on the layer, and this is how its last ranks left them
 abbrev pub AreWorkedBy : Config → SearchView → LayerView → Bool → List BookView → Type 0
 AreWorkedBy config s layer within books =
-    (before : List BookView) × AreDealt s.task s.limit (config.workers + 1) config.locks before ×
+    (before : List BookView) × AreDealt s.problem s.limit (config.workers + 1) config.locks before ×
     AreWorkingOn layer before × AreFinished s.limit before layer within books
 
 -- the outcome of an iteration: the search goes on with books that have closed the next layer; or there is an answer; or
 -- other books came back
 abbrev pub IsIterationEnd : Config → SearchView → SearchView → IterationEnd → Type 0
 IsIterationEnd config before after (Onward books) = GoesOn before after (config.workers + 1) config.locks books.items
-IsIterationEnd config before after (Found answer) = IsAnswer before.task before.limit answer
+IsIterationEnd config before after (Found answer) = IsAnswer before.problem before.limit answer
 IsIterationEnd config before after Foreign = Unit {0}

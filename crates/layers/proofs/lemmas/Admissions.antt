@@ -11,7 +11,7 @@ use Rattle.grid.proofs.lemmas.Steps.{walk_boxes, scene_after_walk, scene_after_p
 use Rattle.area.proofs.lemmas.Norms.{norm_walk}
 use Rattle.doom.specs.Bounds.{IsLower}
 use Rattle.doom.proofs.lemmas.Bounds.{push_lessens}
-use Rattle.successors.specs.Tasks.{Task, IsAdmitted}
+use Rattle.successors.specs.Problems.{Problem, IsAdmitted}
 use Rattle.successors.specs.Capping.{Admits}
 use Rattle.successors.specs.Reaching.{Reaches}
 use Rattle.successors.specs.Expansion.{IsSuccessor}
@@ -29,31 +29,31 @@ play_lessens board s t (d ∷ ds) (p ∷ ps) low scene (push {m = m} ok step pla
     (k, more, omega (arith, le, few))
 
 -- what an admitted successor comes from was admitted one push before
-pub admitted_before : (task : Task) → IsScene task.board (start task.board) → (k : ℕ) (ps : List Push) (n : Scene) (p : Push) (m : Scene) →
-    Reaches task.board ps n → IsSuccessor task.board n p m → Admits task (suc k) m → Admits task k n
-admitted_before task scene k ps n p m (ds, t, play, norm) (es, u, next, after) adm = go task.cap adm
+pub admitted_before : (problem : Problem) → IsScene problem.board (start problem.board) → (k : ℕ) (ps : List Push) (n : Scene) (p : Push) (m : Scene) →
+    Reaches problem.board ps n → IsSuccessor problem.board n p m → Admits problem (suc k) m → Admits problem k n
+admitted_before problem scene k ps n p m (ds, t, play, norm) (es, u, next, after) adm = go problem.cap adm
   where
-    here : IsScene task.board n
+    here : IsScene problem.board n
     here = play_scene (play_scene scene play) (norm_walk norm).1
 
-    go : (cap : Option ℕ) → IsAdmitted task.board cap (suc k) m → IsAdmitted task.board cap k n
+    go : (cap : Option ℕ) → IsAdmitted problem.board cap (suc k) m → IsAdmitted problem.board cap k n
     go None any = tt
     go (Some most) (low, lower, le) =
-        let (a, before, few) = play_lessens task.board n u es (p ∷ []) low here (play_any next) (subst (λ ys. IsLower task.board ys low) after.boxes lower) in
+        let (a, before, few) = play_lessens problem.board n u es (p ∷ []) low here (play_any next) (subst (λ ys. IsLower problem.board ys low) after.boxes lower) in
         (a, before, omega (arith, le, few))
 
 -- what is admitted late is admitted early
-pub admitted_earlier : (task : Task) (j k : ℕ) (n : Scene) → j ≤ k → Admits task k n → Admits task j n
-admitted_earlier task j k n early adm = go task.cap adm
+pub admitted_earlier : (problem : Problem) (j k : ℕ) (n : Scene) → j ≤ k → Admits problem k n → Admits problem j n
+admitted_earlier problem j k n early adm = go problem.cap adm
   where
-    go : (cap : Option ℕ) → IsAdmitted task.board cap k n → IsAdmitted task.board cap j n
+    go : (cap : Option ℕ) → IsAdmitted problem.board cap k n → IsAdmitted problem.board cap j n
     go None any = tt
     go (Some most) (low, lower, le) = (low, lower, omega (arith, le, early))
 
 -- positions with the same boxes are admitted alike
-pub admitted_alike : (task : Task) (k : ℕ) (m n : Scene) → m.boxes ≡ n.boxes → Admits task k m → Admits task k n
-admitted_alike task k m n same adm = go task.cap adm
+pub admitted_alike : (problem : Problem) (k : ℕ) (m n : Scene) → m.boxes ≡ n.boxes → Admits problem k m → Admits problem k n
+admitted_alike problem k m n same adm = go problem.cap adm
   where
-    go : (cap : Option ℕ) → IsAdmitted task.board cap k m → IsAdmitted task.board cap k n
+    go : (cap : Option ℕ) → IsAdmitted problem.board cap k m → IsAdmitted problem.board cap k n
     go None any = tt
-    go (Some most) (low, lower, le) = (low, subst (λ ys. IsLower task.board ys low) same lower, le)
+    go (Some most) (low, lower, le) = (low, subst (λ ys. IsLower problem.board ys low) same lower, le)

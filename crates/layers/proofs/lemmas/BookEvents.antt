@@ -13,7 +13,7 @@ use Rattle.grid.specs.declared.square.Push.{Push}
 use Rattle.grid.specs.Board.{Scene, push_cmp}
 use Rattle.grid.specs.States.{FitsLevel}
 use Rattle.successors.specs.Layered.{IsLayer}
-use Rattle.store.specs.Entries.{Origin, origin_cmp, Entry, Closed, places_of, origin_of}
+use Rattle.store.specs.Entries.{Origin, origin_cmp, OpenEntry, Closed, places_of, origin_of}
 use Rattle.layers.specs.Openings.{IsNext, IsOpening, IsLayered}
 use Rattle.successors.specs.Capping.{Admits}
 use Rattle.successors.specs.Reaching.{Reaches, IsLayerOf, total}
@@ -228,7 +228,7 @@ lawful_over v parcel book is work free passes =
             distinct = parcel_distinct v book begun parcel;
             next = open-distance v book begun (all_entered v parcel.rank parcel.successors) (parcel_open v book begun parcel is work)
                 (parcel_distinct v book begun parcel);
-            passed = omega (arith, length-map (all_entered v parcel.rank parcel.successors) (λ (x : Entry Scene Push). x.0));
+            passed = omega (arith, length-map (all_entered v parcel.rank parcel.successors) (λ (x : OpenEntry Scene Push). x.0));
           }
         ],
         (parcel.rank, work.2, get_or_from_slice_get v.done parcel.rank false true free),
@@ -280,19 +280,19 @@ lawful_closed v es book all sorted =
       over = λ e. absurd (let w = (book.over e).1 in let f = all.1 w.0 w.1 in let g = get_or_same v.done w.0 false true w.1 in cc);
     }
 
-places-closed : (ys : List (Entry Scene Push)) → places_of (map closed_entry ys) ≡ open_places ys
+places-closed : (ys : List (OpenEntry Scene Push)) → places_of (map closed_entry ys) ≡ open_places ys
 places-closed [] = refl
 places-closed (y ∷ ys) = ap (λ xs. y.0 ∷ xs) (places-closed ys)
 
-module _ (v : BookView) (book : IsLawfulBook v) (all : AllDone v) (ys : List (Entry Scene Push)) (distinct : Distinct (open_places ys))
+module _ (v : BookView) (book : IsLawfulBook v) (all : AllDone v) (ys : List (OpenEntry Scene Push)) (distinct : Distinct (open_places ys))
     (same : (m : Scene) → origin_of ys m ≡ origin_of v.waiting m) (long : length ys ≡ length v.waiting)
-    (sorted : (i j : ℕ) (x y : Entry Scene Push) → i < j → slice_get ys i ≡ Some x → slice_get ys j ≡ Some y →
+    (sorted : (i j : ℕ) (x y : OpenEntry Scene Push) → i < j → slice_get ys i ≡ Some x → slice_get ys j ≡ Some y →
     is_gt (origin_cmp push_cmp x.1 y.1) ≡ false) where
   listed : (i : ℕ) (m : Scene) (o : Origin Push) → slice_get ys i ≡ Some (m, o) → origin_of v.waiting m ≡ Some o
   listed i m o at = sym (same m) ∙ listed-origin ys distinct i m o at
 
   -- two entries have the same origin only if they are one
-  sorted_rise : (i j : ℕ) (x y : Entry Scene Push) → i < j → slice_get ys i ≡ Some x → slice_get ys j ≡ Some y → origin_cmp push_cmp x.1 y.1 ≡ Less
+  sorted_rise : (i j : ℕ) (x y : OpenEntry Scene Push) → i < j → slice_get ys i ≡ Some x → slice_get ys j ≡ Some y → origin_cmp push_cmp x.1 y.1 ≡ Less
   sorted_rise i j x y lt at_i at_j = go (origin_cmp push_cmp x.1 y.1) refl (sorted i j x y lt at_i at_j)
     where
       go : (o : Ordering) → origin_cmp push_cmp x.1 y.1 ≡ o → is_gt o ≡ false → o ≡ Less

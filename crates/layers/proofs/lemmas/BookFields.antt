@@ -11,8 +11,8 @@ use Rattle.grid.specs.Board.{Board, Scene}
 use Rattle.grid.specs.Lawful.{box_count}
 use Rattle.grid.specs.States.{FitsLevel}
 use Rattle.successors.specs.declared.parcel.Successor.{Successor}
-use Rattle.store.specs.Entries.{Entry, same_scene, Closed}
-use Rattle.successors.specs.Tasks.{Task}
+use Rattle.store.specs.Entries.{OpenEntry, same_scene, Closed}
+use Rattle.successors.specs.Problems.{Problem}
 use Rattle.successors.specs.Reaching.{total}
 use Rattle.successors.specs.Shares.{share_of}
 use Rattle.successors.specs.inside.Dealt.{share_places}
@@ -90,7 +90,7 @@ module _ (a : Inside) (book : IsLawfulBook (book_view a)) (cuts : AreCuts a.star
   at_work = subst (λ v. IsAtWork v parcel × (slice_get v.done parcel.rank ≡ Some false)) (sym view) found
 
   -- the book after an accepted parcel is a function of the one before
-  pub handed_view : (worker rank tally : ℕ) (waiting : List (Entry Scene Push)) → rank ≡ parcel.rank → tally ≡ get_or a.tallies.items worker 0 + 1 →
+  pub handed_view : (worker rank tally : ℕ) (waiting : List (OpenEntry Scene Push)) → rank ≡ parcel.rank → tally ≡ get_or a.tallies.items worker 0 + 1 →
       waiting ≡ fold (entered (is_wanted_in a.found.seen a.shares a.share) parcel.rank) a.found.waiting parcel.successors →
       record (book_view a) { done = set a.done rank true; waiting = waiting; tallies = set a.tallies.items worker tally } ≡ with_parcel now worker parcel
   handed_view worker rank tally waiting e f g =
@@ -100,7 +100,7 @@ module _ (a : Inside) (book : IsLawfulBook (book_view a)) (cuts : AreCuts a.star
       ∙ ap (λ v. with_parcel v worker parcel) view
 
   -- and is lawful
-  pub handed : (worker rank tally : ℕ) (waiting : List (Entry Scene Push)) → rank ≡ parcel.rank → tally ≡ get_or a.tallies.items worker 0 + 1 →
+  pub handed : (worker rank tally : ℕ) (waiting : List (OpenEntry Scene Push)) → rank ≡ parcel.rank → tally ≡ get_or a.tallies.items worker 0 + 1 →
       waiting ≡ fold (entered (is_wanted_in a.found.seen a.shares a.share) parcel.rank) a.found.waiting parcel.successors →
       worker < a.workers → a.over ≡ false → (false ≡ ltb now.limit (total now.closed + length (all_entered now parcel.rank parcel.successors))) →
       IsLawfulBook (record (book_view a) { done = set a.done rank true; waiting = waiting; tallies = set a.tallies.items worker tally })
@@ -116,7 +116,7 @@ module _ (a : Inside) (book : IsLawfulBook (book_view a)) (cuts : AreCuts a.star
   over_lawful more = lawful_over (book_view a) parcel book is at_work.0 at_work.1 (subst (λ v. ExceedsLimit v parcel) (sym view) (over_limit now parcel more))
 
   -- both, on lists that have names
-  pub handed_all : (worker rank : ℕ) (seen : List Closed) (waiting : List (Entry Scene Push)) (done : List Bool) (tallies : List ℕ) →
+  pub handed_all : (worker rank : ℕ) (seen : List Closed) (waiting : List (OpenEntry Scene Push)) (done : List Bool) (tallies : List ℕ) →
       seen ≡ a.found.seen → waiting ≡ fold (entered (is_wanted_in a.found.seen a.shares a.share) parcel.rank) a.found.waiting parcel.successors →
       done ≡ set a.done rank true → rank ≡ parcel.rank → tallies ≡ set a.tallies.items worker (get_or a.tallies.items worker 0 + 1) →
       worker < a.workers → a.over ≡ false → (false ≡ ltb now.limit (total now.closed + length (all_entered now parcel.rank parcel.successors))) →
@@ -133,7 +133,7 @@ module _ (a : Inside) (book : IsLawfulBook (book_view a)) (cuts : AreCuts a.star
       )
 
 -- where none of the successors is of the share, nothing enters
-pub none_entered : (seen : List Closed) (shares share rank k : ℕ) (ss : List Successor) (waiting : List (Entry Scene Push)) →
+pub none_entered : (seen : List Closed) (shares share rank k : ℕ) (ss : List Successor) (waiting : List (OpenEntry Scene Push)) →
     share_places shares share k (map (λ s. scene_sum s.position) ss) ≡ [] → fold (entered (is_wanted_in seen shares share) rank) waiting ss ≡ waiting
 none_entered seen shares share rank k [] waiting none = refl
 none_entered seen shares share rank k (s ∷ ss) waiting none =
@@ -163,12 +163,12 @@ first_fits board boxes squares None boxes_are squares_are fits = tt
 first_fits board boxes squares (Some m) boxes_are squares_are fits = level_fits board boxes squares m boxes_are squares_are fits
 
 -- the successors of a parcel have as many boxes as its level, and stand on its grid
-pub fits_few : (parcel : ParcelView) → IsParcel parcel → (task : Task) → parcel.level ≡ task → (v : FoundView) → v.boxes ≡ box_count task.board →
-    v.squares ≡ length task.board.cells → (ss : List Successor) → ss ≡ parcel.successors → AllFit v ss
-fits_few parcel is task same v boxes_are squares_are ss e = record {
+pub fits_few : (parcel : ParcelView) → IsParcel parcel → (problem : Problem) → parcel.level ≡ problem → (v : FoundView) → v.boxes ≡ box_count problem.board →
+    v.squares ≡ length problem.board.cells → (ss : List Successor) → ss ≡ parcel.successors → AllFit v ss
+fits_few parcel is problem same v boxes_are squares_are ss e = record {
   each = λ i s at.
-      level_fits task.board v.boxes v.squares s.position boxes_are squares_are
-      (subst (λ (t : Task). FitsLevel t.board s.position) same (is.fits i s (ap (λ xs. slice_get xs i) (sym e) ∙ at)));
+      level_fits problem.board v.boxes v.squares s.position boxes_are squares_are
+      (subst (λ (t : Problem). FitsLevel t.board s.position) same (is.fits i s (ap (λ xs. slice_get xs i) (sym e) ∙ at)));
 }
 
 -- ranks stay taken when one more is done
@@ -178,11 +178,11 @@ taken_done v k r taken = elim taken [ inl c ↦ inl c | inr d ↦ inr (true_kept
 -- ---- a close, on the fields
 
 module _ (a : Inside) (book : IsLawfulBook (book_view a)) (cuts : AreCuts a.starts.items (length a.found.seen)) (all : AllDone (book_view a))
-    (ys : List (Entry Scene Push)) (same : AreReordered a.found.waiting ys) (rise : RiseByOrigin ys) where
+    (ys : List (OpenEntry Scene Push)) (same : AreReordered a.found.waiting ys) (rise : RiseByOrigin ys) where
   sorted_open : IsSortedOpen (book_view a) (map closed_entry ys)
   sorted_open = sorted_closed (book_view a) book all ys same.2 same.1 same.0 rise
 
-  module _ (starts : List ℕ) (seen : List Closed) (claimed done : List Bool) (waiting : List (Entry Scene Push)) (n : ℕ)
+  module _ (starts : List ℕ) (seen : List Closed) (claimed done : List Bool) (waiting : List (OpenEntry Scene Push)) (n : ℕ)
       (starts_are : starts ≡ a.starts.items ++ n ∷ []) (n_is : n ≡ length a.found.seen)
       (seen_are : seen ≡ a.found.seen ++ map closed_entry ys) (no_claims : claimed ≡ []) (none_done : done ≡ []) (none_waits : waiting ≡ []) where
     -- the book after a close is a function of the one before and the sorted entries

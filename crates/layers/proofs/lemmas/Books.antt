@@ -15,9 +15,9 @@ use Rattle.grid.specs.Lawful.{IsLevel}
 use Rattle.grid.proofs.lemmas.Levels.{start_is_scene}
 use Rattle.successors.specs.declared.parcel.Successor.{Successor}
 use Rattle.successors.specs.Layered.{IsIn}
-use Rattle.store.specs.Entries.{Entry, same_scene, places_of, origin_of}
+use Rattle.store.specs.Entries.{OpenEntry, same_scene, places_of, origin_of}
 use Rattle.layers.specs.Openings.{IsOpening, IsLayered}
-use Rattle.successors.specs.Tasks.{Task}
+use Rattle.successors.specs.Problems.{Problem}
 use Rattle.successors.specs.Capping.{Admits}
 use Rattle.successors.specs.Reaching.{Reaches, IsLayerOf, AreLayersOf, total}
 use Rattle.successors.specs.Expansion.{IsSuccessor, IsSuccessorIn}
@@ -35,14 +35,14 @@ use Rattle.layers.proofs.Open.{reoffered, offer_nothing, offer_one}
 use Rattle.layers.proofs.Reaching.{reaching_laws}
 
 -- the layers of a lawful level are layers in lead order
-pub level_laws : (task : Task) → IsLevel task.board → IsLayered push_cmp (Reaches task.board) (IsSuccessor task.board) (Admits task)
-level_laws task level = reaching_laws task (start_is_scene task.board level)
+pub level_laws : (problem : Problem) → IsLevel problem.board → IsLayered push_cmp (Reaches problem.board) (IsSuccessor problem.board) (Admits problem)
+level_laws problem level = reaching_laws problem (start_is_scene problem.board level)
 
 -- a successor by a push is one place
-pub one_successor : (task : Task) → IsLevel task.board → (k : ℕ) (xs : List Scene) → IsLayerOf task k xs → (r : ℕ) (n : Scene) → slice_get xs r ≡ Some n →
-    (p : Push) (m m' : Scene) → IsSuccessor task.board n p m → IsSuccessor task.board n p m' → m' ≡ m
-one_successor task level k xs layer r n at p m m' a b =
-    let laws = level_laws task level in
+pub one_successor : (problem : Problem) → IsLevel problem.board → (k : ℕ) (xs : List Scene) → IsLayerOf problem k xs → (r : ℕ) (n : Scene) → slice_get xs r ≡ Some n →
+    (p : Push) (m m' : Scene) → IsSuccessor problem.board n p m → IsSuccessor problem.board n p m' → m' ≡ m
+one_successor problem level k xs layer r n at p m m' a b =
+    let laws = level_laws problem level in
     let lead = (layer.leads r n at).1 in
     laws.same (lead.0 ++ p ∷ []) m' m (laws.grow lead.0 n p m' lead.1.reached b) (laws.grow lead.0 n p m lead.1.reached a)
 
@@ -92,7 +92,7 @@ module _ (v : BookView) (book : IsLawfulBook v) (begun : v.begun ≡ true) where
 
   -- an origin of a rank is offered: the open positions are those of the origins offered before and that one
   module _ (rank : ℕ) (n : Scene) (at : slice_get (whole_layer (last_layer v)) rank ≡ Some n) where
-    entered_open : {Offered : ℕ → Push → Type 0} (waiting : List (Entry Scene Push)) (s : Successor) →
+    entered_open : {Offered : ℕ → Push → Type 0} (waiting : List (OpenEntry Scene Push)) (s : Successor) →
         IsSuccessorIn v.level (last_layer v) n s.push s.position →
         IsOpening push_cmp (IsSuccessor v.level.board) (IsKept v) whole_layer (last_layer v) Offered (origin_of waiting) →
         IsOpening push_cmp (IsSuccessor v.level.board) (IsKept v) whole_layer (last_layer v) (λ r p. Offered r p ⊎ ((r ≡ rank) × (p ≡ s.push)))
@@ -139,7 +139,7 @@ module _ (v : BookView) (book : IsLawfulBook v) (begun : v.begun ≡ true) where
     PushOf ss p = (i : ℕ) × (s : Successor) × (slice_get ss i ≡ Some s) × (s.push ≡ p)
 
     -- the same for all successors of a rank, one after the other
-    pub all_open : (ss : List Successor) {Offered : ℕ → Push → Type 0} (waiting : List (Entry Scene Push)) →
+    pub all_open : (ss : List Successor) {Offered : ℕ → Push → Type 0} (waiting : List (OpenEntry Scene Push)) →
         ((i : ℕ) (s : Successor) → slice_get ss i ≡ Some s → IsSuccessorIn v.level (last_layer v) n s.push s.position) →
         IsOpening push_cmp (IsSuccessor v.level.board) (IsKept v) whole_layer (last_layer v) Offered (origin_of waiting) →
         IsOpening push_cmp (IsSuccessor v.level.board) (IsKept v) whole_layer (last_layer v) (λ r p. Offered r p ⊎ ((r ≡ rank) × PushOf ss p))
@@ -161,7 +161,7 @@ module _ (v : BookView) (book : IsLawfulBook v) (begun : v.begun ≡ true) where
         next
 
   -- the open positions stay distinct
-  pub all_distinct : (rank : ℕ) (ss : List Successor) (waiting : List (Entry Scene Push)) → Distinct (open_places waiting) →
+  pub all_distinct : (rank : ℕ) (ss : List Successor) (waiting : List (OpenEntry Scene Push)) → Distinct (open_places waiting) →
       Distinct (open_places (fold (entered (is_wanted v) rank) waiting ss))
   all_distinct rank [] waiting distinct = distinct
   all_distinct rank (s ∷ ss) waiting distinct = all_distinct rank ss (entered (is_wanted v) rank waiting s) (go (is_wanted v s.position))
@@ -171,7 +171,7 @@ module _ (v : BookView) (book : IsLawfulBook v) (begun : v.begun ≡ true) where
       go false = distinct
 
   -- and what holds of each place and of each successor holds of them
-  pub all_each : (Q : Scene → Type 0) (rank : ℕ) (ss : List Successor) (waiting : List (Entry Scene Push)) →
+  pub all_each : (Q : Scene → Type 0) (rank : ℕ) (ss : List Successor) (waiting : List (OpenEntry Scene Push)) →
       ((i : ℕ) (s : Successor) → slice_get ss i ≡ Some s → Q s.position) → ((m : Scene) → IsIn (open_places waiting) m → Q m) → (m : Scene) →
       IsIn (open_places (fold (entered (is_wanted v) rank) waiting ss)) m → Q m
   all_each Q rank [] waiting new old = old
@@ -202,7 +202,7 @@ few_ranks v book r lt =
     whole_length (xs ∷ xss) (suc k) = omega (arith, sum_by_first length xs xss, whole_length xss k)
 
 -- the open places of a book that has begun are at the next distance
-pub open-distance : (v : BookView) (book : IsLawfulBook v) (begun : v.begun ≡ true) {Offered : ℕ → Push → Type 0} (waiting : List (Entry Scene Push)) →
+pub open-distance : (v : BookView) (book : IsLawfulBook v) (begun : v.begun ≡ true) {Offered : ℕ → Push → Type 0} (waiting : List (OpenEntry Scene Push)) →
     IsOpening push_cmp (IsSuccessor v.level.board) (IsKept v) (whole_layer v book begun) (last_layer v) Offered (origin_of waiting) →
     Distinct (open_places waiting) → (m : Scene) → IsIn (open_places waiting) m → InShare v m × IsAtDistance v.level m (length v.closed)
 open-distance v book begun waiting o distinct m w =
@@ -288,9 +288,9 @@ same_places (x ∷ xs) (y ∷ ys) long same = let e = same zero x y refl refl in
     λ n. e n ∷ f n
 
 -- the first layers of a level are one list of lists
-pub layers_same : (task : Task) → IsLevel task.board → (xss yss : List (List Scene)) → AreLayersOf task xss → AreLayersOf task yss → length xss ≡ length yss →
+pub layers_same : (problem : Problem) → IsLevel problem.board → (xss yss : List (List Scene)) → AreLayersOf problem xss → AreLayersOf problem yss → length xss ≡ length yss →
     xss ≡ yss
-layers_same task level xss yss a b long = same_places xss yss long (λ j xs ys at_x at_y. layer_unique (level_laws task level) j xs ys (a j xs at_x)
+layers_same problem level xss yss a b long = same_places xss yss long (λ j xs ys at_x at_y. layer_unique (level_laws problem level) j xs ys (a j xs at_x)
     (b j ys at_y))
 
 -- ---- tallies

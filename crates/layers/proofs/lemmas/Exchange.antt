@@ -12,7 +12,7 @@ use Rattle.std.specs.Ordering.{ordering_then, ordering_reverse, is_gt}
 use Rattle.std.specs.Cmp.Lexicographic.{slice_cmp, lists_total}
 use Rattle.grid.specs.Plays.{shortlex}
 use Rattle.successors.specs.Layered.{IsIn, IsLead, IsLayer}
-use Rattle.store.specs.Entries.{origin_cmp, Entry}
+use Rattle.store.specs.Entries.{origin_cmp, OpenEntry}
 use Rattle.layers.specs.Openings.{IsNext, IsLayered}
 use Rattle.layers.proofs.lemmas.Orders.{slice_cmp-snoc, slice_cmp_exact, shortlex-length, shortlex_shorter, shortlex_same, less_upto, then_upto, less_then}
 use Rattle.layers.proofs.lemmas.Orders.{equal_then, upto-less, nat_cmp_upto, nat_cmp_less}
@@ -59,7 +59,7 @@ module _ {N P : Type 0} {cmp : P → P → Ordering} {Reach : List P → N → T
 
   -- from here on: the layers up to k, what is kept of the next one, and its entries
   module _ (layer : ℕ → List N) (k : ℕ) (layers : (j : ℕ) → j ≤ k → IsLayer cmp Reach Adm j (layer j)) {Kept : N → Type 0} (kept : (m : N) → Kept m →
-      Adm (suc k) m) (ys : List (Entry N P)) (next : IsNext cmp Edge Kept layer k ys) where
+      Adm (suc k) m) (ys : List (OpenEntry N P)) (next : IsNext cmp Edge Kept layer k ys) where
     -- fewer pushes than k + 1 lead to no entry's place
     not_sooner : (i : ℕ) (m : N) (r : ℕ) (p : P) → slice_get ys i ≡ Some (m, (r, p)) → (qs : List P) → Reach qs m → suc k ≤ length qs
     not_sooner i m r p at qs reach =
@@ -120,7 +120,7 @@ module _ {N P : Type 0} {cmp : P → P → Ordering} {Reach : List P → N → T
         }
 
     -- the origins of two entries, the first before the second, give leads in that order
-    entries_rise : (i j : ℕ) (x y : Entry N P) → i < j → slice_get ys i ≡ Some x → slice_get ys j ≡ Some y → (ps qs : List P) → IsLead cmp Reach x.0 ps →
+    entries_rise : (i j : ℕ) (x y : OpenEntry N P) → i < j → slice_get ys i ≡ Some x → slice_get ys j ≡ Some y → (ps qs : List P) → IsLead cmp Reach x.0 ps →
         IsLead cmp Reach y.0 qs → slice_cmp cmp ps qs ≡ Less
     entries_rise i j x y lt at_i at_j ps qs lead lead' =
         let u = (next.from i x.0 x.1.0 x.1.1 at_i).1 in

@@ -9,7 +9,7 @@ use Rattle.grid.specs.Board.{Scene}
 use Rattle.grid.specs.Lawful.{IsLevel}
 use Rattle.successors.specs.Layered.{IsIn}
 use Rattle.successors.specs.Shares.{share_of}
-use Rattle.successors.specs.Tasks.{Task}
+use Rattle.successors.specs.Problems.{Problem}
 use Rattle.successors.specs.Capping.{Admits}
 use Rattle.successors.specs.Reaching.{IsLayerOf, AreLayersOf, total}
 use Rattle.layers.specs.Leads.{IsLeadOf}
@@ -23,14 +23,14 @@ use Rattle.successors.proofs.lemmas.Lists.{at_map, map_at, Distinct}
 use Rattle.layers.proofs.lemmas.Joins.{total-places}
 
 -- a share of a layer has no more positions than the layer
-pub share_upto : (task : Task) → IsLevel task.board → (shares share k : ℕ) (es : List Closed) (xs : List Scene) → IsShareOfLayer task shares share k es →
-    IsLayerOf task k xs → length es ≤ length xs
-share_upto task level shares share k es xs part whole =
+pub share_upto : (problem : Problem) → IsLevel problem.board → (shares share k : ℕ) (es : List Closed) (xs : List Scene) → IsShareOfLayer problem shares share k es →
+    IsLayerOf problem k xs → length es ≤ length xs
+share_upto problem level shares share k es xs part whole =
     omega (
       arith,
       length-map es (λ (e : Closed). e.0),
-      length-distinct (places_of es) xs (place_unique (level_laws task level) k (places_of es) part.layer)
-          (λ m i. (let w = part.layer.leads i.0 m i.1 in let lead = w.1 in member (level_laws task level) k xs whole m lead.0 lead.1 lead.2 w.0.1)),
+      length-distinct (places_of es) xs (place_unique (level_laws problem level) k (places_of es) part.layer)
+          (λ m i. (let w = part.layer.leads i.0 m i.1 in let lead = w.1 in member (level_laws problem level) k xs whole m lead.0 lead.1 lead.2 w.0.1)),
     )
 
 -- a book has closed no more positions than lie in the layers that it has closed
@@ -40,28 +40,28 @@ closed_upto v book layers are few =
     totals_upto v.closed layers few (λ j es xs at_es at_xs. share_upto v.level book.level v.shares v.share j es xs (book.closed j es at_es) (are j xs at_xs))
 
 -- the share and the lead of a position of a share, which is admitted
-share_lead : (task : Task) (shares t k : ℕ) (es : List Closed) → IsShareOfLayer task shares t k es → (m : Scene) → IsIn (places_of es) m →
-    ((share_of shares m ≡ t) × Admits task k m) × ((ps : List Push) × IsLeadOf task.board m ps × (length ps ≡ k))
-share_lead task shares t k es part m (i, at) = part.layer.leads i m at
+share_lead : (problem : Problem) (shares t k : ℕ) (es : List Closed) → IsShareOfLayer problem shares t k es → (m : Scene) → IsIn (places_of es) m →
+    ((share_of shares m ≡ t) × Admits problem k m) × ((ps : List Push) × IsLeadOf problem.board m ps × (length ps ≡ k))
+share_lead problem shares t k es part m (i, at) = part.layer.leads i m at
 
 -- ---- all the shares of a layer
 
-module _ (task : Task) (level : IsLevel task.board) (shares k : ℕ) (lists : List (List Closed)) (are : AreSharesOfLayer task shares k lists) (xs : List Scene)
-    (whole : IsLayerOf task k xs) where
+module _ (problem : Problem) (level : IsLevel problem.board) (shares k : ℕ) (lists : List (List Closed)) (are : AreSharesOfLayer problem shares k lists) (xs : List Scene)
+    (whole : IsLayerOf problem k xs) where
   abbrev all_places : List (List Scene)
   all_places = map places_of lists
 
   -- a list of positions is one of the shares
-  share_places : (t : ℕ) (ms : List Scene) → slice_get all_places t ≡ Some ms → (es : List Closed) × IsShareOfLayer task shares t k es × (places_of es ≡ ms)
+  share_places : (t : ℕ) (ms : List Scene) → slice_get all_places t ≡ Some ms → (es : List Closed) × IsShareOfLayer problem shares t k es × (places_of es ≡ ms)
   share_places t ms at = let x = at_map places_of lists t ms at in (x.0, are.each t x.0 x.1, x.2)
 
   lead_among : (t : ℕ) (ms : List Scene) → slice_get all_places t ≡ Some ms → (m : Scene) → IsIn ms m →
-      ((share_of shares m ≡ t) × Admits task k m) × ((ps : List Push) × IsLeadOf task.board m ps × (length ps ≡ k))
-  lead_among t ms at m i = let x = share_places t ms at in share_lead task shares t k x.0 x.1 m (i.0, ap (λ zs. slice_get zs i.0) x.2 ∙ i.1)
+      ((share_of shares m ≡ t) × Admits problem k m) × ((ps : List Push) × IsLeadOf problem.board m ps × (length ps ≡ k))
+  lead_among t ms at m i = let x = share_places t ms at in share_lead problem shares t k x.0 x.1 m (i.0, ap (λ zs. slice_get zs i.0) x.2 ∙ i.1)
 
   shares_distinct : Distinct (flat all_places)
   shares_distinct = flat_distinct all_places
-      (λ t ms at. let x = share_places t ms at in subst (λ zs. Distinct zs) x.2 (place_unique (level_laws task level) k (places_of x.0) x.1.layer))
+      (λ t ms at. let x = share_places t ms at in subst (λ zs. Distinct zs) x.2 (place_unique (level_laws problem level) k (places_of x.0) x.1.layer))
       (λ s t ms ns m at_m at_n in_m in_n. sym (lead_among s ms at_m m in_m).0.0 ∙ (lead_among t ns at_n m in_n).0.0)
 
   in_layer : (m : Scene) → IsIn (flat all_places) m → IsIn xs m
@@ -69,7 +69,7 @@ module _ (task : Task) (level : IsLevel task.board) (shares k : ℕ) (lists : Li
       let w = of_flat all_places m i in
       let l = lead_among w.0 w.1 w.2 m w.3 in
       let lead = l.1 in
-      member (level_laws task level) k xs whole m lead.0 lead.1 lead.2 l.0.1
+      member (level_laws problem level) k xs whole m lead.0 lead.1 lead.2 l.0.1
 
   in_shares : 0 < shares → (m : Scene) → IsIn xs m → IsIn (flat all_places) m
   in_shares some m i =
@@ -78,7 +78,7 @@ module _ (task : Task) (level : IsLevel task.board) (shares k : ℕ) (lists : Li
       let l = whole.leads i.0 m i.1 in
       let lead = l.1 in
       in_flat all_places t (places_of (get_or lists t [])) m (map_at places_of lists t (get_or lists t []) at)
-      (member (level_laws task level) k (places_of (get_or lists t [])) (are.each t (get_or lists t []) at).layer m lead.0 lead.1 lead.2 (refl, l.0))
+      (member (level_laws problem level) k (places_of (get_or lists t [])) (are.each t (get_or lists t []) at).layer m lead.0 lead.1 lead.2 (refl, l.0))
 
   -- a layer has as many positions as its shares together
   pub shares_sum : 0 < shares → total lists ≡ length xs
@@ -86,7 +86,7 @@ module _ (task : Task) (level : IsLevel task.board) (shares k : ℕ) (lists : Li
       omega (
         arith,
         length-distinct (flat all_places) xs shares_distinct in_layer,
-        length-distinct xs (flat all_places) (place_unique (level_laws task level) k xs whole) (in_shares some),
+        length-distinct xs (flat all_places) (place_unique (level_laws problem level) k xs whole) (in_shares some),
         length-flat all_places,
         total-places lists,
       )

@@ -9,7 +9,7 @@ use Rattle.grid.specs.declared.limits.TheConstants.{MAX_BOXES}
 use Rattle.area.specs.Area.{IsNorm}
 use Rattle.doom.specs.Deadlocks.{Doomed, Undoomed}
 use Rattle.layers.specs.declared.book.Book.TheInside.{Inside}
-use Rattle.successors.specs.Tasks.{Task}
+use Rattle.successors.specs.Problems.{Problem}
 use Rattle.successors.specs.Capping.{Admits}
 use Rattle.layers.specs.BookView.{BookView, IsLawfulBook}
 use Rattle.layers.specs.Books.{IsClaimedOrDone}
@@ -37,10 +37,10 @@ book_view a = record {
 }
 
 -- the first position of a level: the start's normal position, or none if the start is doomed or not admitted
-abbrev pub IsFirst : Task → Option Scene → Type 0
-IsFirst task None = Doomed task.board (start task.board).boxes ⊎ ¬ (Admits task 0 (start task.board))
-IsFirst task (Some m) = Undoomed task.board (start task.board) × IsNorm task.board (start task.board) m ×
-    FitsLevel task.board m × Admits task 0 m
+abbrev pub IsFirst : Problem → Option Scene → Type 0
+IsFirst problem None = Doomed problem.board (start problem.board).boxes ⊎ ¬ (Admits problem 0 (start problem.board))
+IsFirst problem (Some m) = Undoomed problem.board (start problem.board) × IsNorm problem.board (start problem.board) m ×
+    FitsLevel problem.board m × Admits problem 0 m
 
 -- the indices at which a list is cut: the first one is 0, and they do not fall
 pub record AreCuts (starts : List ℕ) (len : ℕ) : Type 0 where

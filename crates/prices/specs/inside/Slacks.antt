@@ -3,7 +3,7 @@ use Rattle.std.specs.Prelude.{◌≡◌, ℕ, List, drop, length, take}
 use Rattle.grid.specs.States.{IsScene}
 use Rattle.prices.specs.Helping.{SlackView}
 use Rattle.prices.specs.Prices.{AreFar, goals_of, sum_over}
-use Rattle.prices.specs.inside.Sums.{need_seen, total}
+use Rattle.prices.specs.inside.Sums.{need_seen, sum_all}
 use Rattle.prices.specs.inside.Tables.{far_in}
 use Rattle.prices.specs.declared.slack.Slack.TheInside.{Inside}
 
@@ -19,6 +19,6 @@ pub record IsSlack (a : Inside) : Type 0 where
   pub scene : IsScene a.level.now a.position.now
   pub far : AreFar a.level.now (far_in a.table.now)
   pub goals : a.table.now.goals.items ≡ goals_of a.level.now
-  pub price : a.price ≡ total (tolls_of a)
+  pub price : a.price ≡ sum_all (tolls_of a)
   pub needs : length (tolls_of a) ≡ length a.table.now.goals.items →
       a.needs ≡ sum_over (λ b. need_seen a.table.now (tolls_of a) b a.position.now.player) a.position.now.boxes

@@ -5,9 +5,9 @@ use Rattle.prices.specs.Prices.{least_of}
 use Rattle.prices.specs.inside.Tables.{far_in, number_of, row_in}
 
 -- the sum of numbers
-abbrev pub total : List ℕ → ℕ
-total [] = 0
-total (x ∷ xs) = x + total xs
+abbrev pub sum_all : List ℕ → ℕ
+sum_all [] = 0
+sum_all (x ∷ xs) = x + sum_all xs
 
 -- the greatest number of 32 bits, which caps what a box needs
 abbrev pub greatest : ℕ

@@ -1,30 +1,30 @@
 -- Rounds of a search: the positions that are expanded side by side, and what that has found.
 use Rattle.std.specs.Prelude.{◌≡◌, ℕ, List, slice_get, Some, IsTrue}
-use Rattle.store.specs.Visited.{Entry}
-use Rattle.successors.specs.Tasks.{Task}
-use Rattle.prover.specs.declared.lane.Job.{Job}
+use Rattle.store.specs.Visited.{Node}
+use Rattle.successors.specs.Problems.{Problem}
+use Rattle.prover.specs.declared.lane.Pick.{Pick}
 use Rattle.prover.specs.declared.lane.Lane.{Lane}
 use Rattle.prover.specs.declared.rounds.Desk.{Desk}
 use Rattle.prover.specs.inside.Working.{IsExpansion, MayBeExpanded}
 
--- the job is for a position that can be expanded. Once it is done, it holds what the expansion has opened beside the
+-- the pick is for a position that can be expanded. Once it is done, it holds what the expansion has opened beside the
 -- positions that were found
-pub record IsJob (t : Task) (all : List Entry) (job : Job) : Type 0 where
-  pub ready : MayBeExpanded t.board job.from
-  pub found : IsTrue job.is_done → IsExpansion t.board t.cap all job.from job.opened.items job.next
+pub record IsPick (t : Problem) (all : List Node) (pick : Pick) : Type 0 where
+  pub ready : MayBeExpanded t.board pick.from
+  pub found : IsTrue pick.is_done → IsExpansion t.board t.cap all pick.from pick.opened.items pick.next
 
-abbrev pub AreJobs : Task → List Entry → List Job → Type 0
-AreJobs t all jobs = (i : ℕ) (job : Job) → slice_get jobs i ≡ Some job → IsJob t all job
+abbrev pub ArePicks : Problem → List Node → List Pick → Type 0
+ArePicks t all picks = (i : ℕ) (pick : Pick) → slice_get picks i ≡ Some pick → IsPick t all pick
 
--- a lane for the task, with jobs for it
-pub record IsLane (t : Task) (all : List Entry) (lane : Lane) : Type 0 where
-  pub task : lane.workspace.expander.task ≡ t
-  pub jobs : AreJobs t all lane.jobs.items
+-- a lane for the problem, with picks for it
+pub record IsLane (t : Problem) (all : List Node) (lane : Lane) : Type 0 where
+  pub problem : lane.workspace.expander.problem ≡ t
+  pub picks : ArePicks t all lane.picks.items
 
-abbrev pub AreLanes : Task → List Entry → List Lane → Type 0
+abbrev pub AreLanes : Problem → List Node → List Lane → Type 0
 AreLanes t all lanes = (i : ℕ) (lane : Lane) → slice_get lanes i ≡ Some lane → IsLane t all lane
 
--- the memory of a search for the task
-pub record IsDesk (t : Task) (all : List Entry) (desk : Desk) : Type 0 where
-  pub task : desk.workspace.expander.task ≡ t
+-- the memory of a search for the problem
+pub record IsDesk (t : Problem) (all : List Node) (desk : Desk) : Type 0 where
+  pub problem : desk.workspace.expander.problem ≡ t
   pub lanes : AreLanes t all desk.lanes.items

@@ -8,7 +8,7 @@ use Rattle.prover.specs.declared.outcome.Outcome.TheVariants.{NoneWithin, Unsolv
 use Rattle.prover.specs.declared.searching.SearchEnd.{SearchEnd}
 use Rattle.prover.specs.declared.searching.SearchEnd.TheVariants.{Closed, Solved, Limit}
 use Rattle.prover.specs.Fewest.{NoneHasFewer, HasMore}
-use Rattle.store.specs.Visited.{Entry}
+use Rattle.store.specs.Visited.{Node}
 
 -- no play that the cap allows ends solved
 abbrev pub NoneIsAllowed : Board → Option ℕ → Type 0
@@ -21,8 +21,8 @@ none_by None = Unsolvable
 none_by (Some most) = NoneWithin
 
 -- the position at the place is solved, and was found with as few pushes as any solution has
-pub record IsLeastSolved (board : Board) (cap : Option ℕ) (all : List Entry) (place : ℕ) : Type 0 where
-  pub entry : Entry
+pub record IsLeastSolved (board : Board) (cap : Option ℕ) (all : List Node) (place : ℕ) : Type 0 where
+  pub entry : Node
   pub at : slice_get all place ≡ Some entry
   pub solved : IsSolved board entry.position
   pub fewest : NoneHasFewer board entry.pushes
@@ -33,7 +33,7 @@ abbrev pub IsFloor : Board → Option ℕ → ℕ → Type 0
 IsFloor board cap least = NoneHasFewer board least × Allows cap least
 
 -- what the end says of the level, beside what was found
-abbrev pub Tells : Board → Option ℕ → ℕ → List Entry → SearchEnd → Type 0
+abbrev pub Tells : Board → Option ℕ → ℕ → List Node → SearchEnd → Type 0
 Tells board cap limit all Closed = NoneIsAllowed board cap
 Tells board cap limit all (Solved place) = IsLeastSolved board cap all place
 Tells board cap limit all Limit = HasMore board limit

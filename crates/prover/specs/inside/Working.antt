@@ -18,7 +18,7 @@ use Rattle.prices.specs.Solving.{Allows, SolvableWithin}
 use Rattle.prover.specs.declared.pushing.Expanded.{Expanded}
 use Rattle.prover.specs.declared.pushing.Opened.{Opened}
 use Rattle.prover.specs.declared.queue.Ticket.{Ticket}
-use Rattle.store.specs.Visited.{Entry, VisitedView, with_least}
+use Rattle.store.specs.Visited.{Node, VisitedView, with_least}
 use Rattle.prover.specs.Frontier.{IsReachedAfter, IsFoundWithin, IsTotal, Keeps, AreFew, AreFrom, ComesFrom}
 use Rattle.prover.specs.Frontier.{IsSearchUnderWay}
 
@@ -34,9 +34,9 @@ pub record IsFirstTicket (tickets : List Ticket) (t : Ticket) : Type 0 where
   pub least : (least place : ℕ) → Waits tickets least place → t.least.0 ≤ least
 
 -- each open position waits
-abbrev pub IsQueued : List Entry → List Ticket → Type 0
+abbrev pub IsQueued : List Node → List Ticket → Type 0
 IsQueued all tickets =
-    (i : ℕ) (x : Entry) (least : ℕ) → slice_get all i ≡ Some x → x.least ≡ Some least → Waits tickets least i
+    (i : ℕ) (x : Node) (least : ℕ) → slice_get all i ≡ Some x → x.least ≡ Some least → Waits tickets least i
 
 -- ---- how what was found changes
 
@@ -55,13 +55,13 @@ abbrev pub HasSize : Board → VisitedView → Type 0
 HasSize board v = (v.boxes ≡ box_count board) × (v.squares ≡ length board.cells)
 
 -- each position keeps its place, and its pushes do not grow
-abbrev pub KeepPlaces : List Entry → List Entry → Type 0
-KeepPlaces old new = (i : ℕ) (x : Entry) → slice_get old i ≡ Some x →
-    (y : Entry) × (slice_get new i ≡ Some y) × (y.position ≡ x.position) × (y.pushes ≤ x.pushes)
+abbrev pub KeepPlaces : List Node → List Node → Type 0
+KeepPlaces old new = (i : ℕ) (x : Node) → slice_get old i ≡ Some x →
+    (y : Node) × (slice_get new i ≡ Some y) × (y.position ≡ x.position) × (y.pushes ≤ x.pushes)
 
 -- the entries with at most k pushes are unchanged
-abbrev pub StayBelow : ℕ → List Entry → List Entry → Type 0
-StayBelow k old new = (i : ℕ) (x : Entry) → slice_get old i ≡ Some x → x.pushes ≤ k → slice_get new i ≡ Some x
+abbrev pub StayBelow : ℕ → List Node → List Node → Type 0
+StayBelow k old new = (i : ℕ) (x : Node) → slice_get old i ≡ Some x → x.pushes ≤ k → slice_get new i ≡ Some x
 
 -- how often an open position's least total, which is less than 2^32, can still grow before it is closed; 0 once it is
 abbrev pub openness : Option ℕ → ℕ
@@ -70,41 +70,41 @@ openness (Some least) = 4294967296 - least
 
 -- an upper bound on the expansions of the positions that were found: an expansion closes its position or makes the
 -- least total greater, and a closed position is opened again only with fewer pushes
-abbrev pub turns : List Entry → ℕ
+abbrev pub turns : List Node → ℕ
 turns [] = 0
 turns (x ∷ all) = 4294967297 * x.pushes + openness x.least + turns all
 
 -- how many more times a search of no more positions than the limit can turn
-abbrev pub turns_left : ℕ → List Entry → ℕ
+abbrev pub turns_left : ℕ → List Node → ℕ
 turns_left limit all = turns all + (limit - length all) * (4294967297 * limit + 4294967297)
 
 -- each position keeps its place, and no more turns are left
-pub record GetsOn (old new : List Entry) : Type 0 where
+pub record GetsOn (old new : List Node) : Type 0 where
   pub still : KeepPlaces old new
   pub more : length old ≤ length new
   pub turns : (limit : ℕ) → length new ≤ limit → turns_left limit new ≤ turns_left limit old
 
 -- the entry is noted, if its position was not found with as few pushes
-pub record Enters (old new : List Entry) (e : Entry) : Type 0 where
+pub record Enters (old new : List Node) (e : Node) : Type 0 where
   pub still : KeepPlaces old new
   pub below : StayBelow e.pushes old new
   pub found : IsFoundWithin new e.pushes e.position
-  pub each : (i : ℕ) (y : Entry) → slice_get new i ≡ Some y → (slice_get old i ≡ Some y) ⊎ (y ≡ e)
+  pub each : (i : ℕ) (y : Node) → slice_get new i ≡ Some y → (slice_get old i ≡ Some y) ⊎ (y ≡ e)
   pub few : e.pushes ≤ length old → AreFew old → AreFew new
   pub goes_on : e.pushes ≤ length old → GetsOn old new
 
 -- the position at the place is open with this least total, and no open one has a lesser total
-abbrev pub IsLeastOpen : List Entry → ℕ → ℕ → Type 0
-IsLeastOpen all place least = (x : Entry) × (slice_get all place ≡ Some x) × (x.least ≡ Some least) × AreFrom least all
+abbrev pub IsLeastOpen : List Node → ℕ → ℕ → Type 0
+IsLeastOpen all place least = (x : Node) × (slice_get all place ≡ Some x) × (x.least ≡ Some least) × AreFrom least all
 
 -- the position has the place, found with k pushes
-abbrev pub IsFoundAt : List Entry → ℕ → Scene → ℕ → Type 0
-IsFoundAt all place s k = (x : Entry) × (slice_get all place ≡ Some x) × (x.position ≡ s) × (x.pushes ≡ k)
+abbrev pub IsFoundAt : List Node → ℕ → Scene → ℕ → Type 0
+IsFoundAt all place s k = (x : Node) × (slice_get all place ≡ Some x) × (x.position ≡ s) × (x.pushes ≡ k)
 
 -- the position that is expanded is at its place, found with as many pushes, and open with a least total of at most
 -- `reach`
-pub record IsWaiting (all : List Entry) (from : Expanded) : Type 0 where
-  pub entry : Entry
+pub record IsWaiting (all : List Node) (from : Expanded) : Type 0 where
+  pub entry : Node
   pub least : ℕ
   pub at : slice_get all from.place ≡ Some entry
   pub same : entry.position ≡ from.position
@@ -113,9 +113,9 @@ pub record IsWaiting (all : List Entry) (from : Expanded) : Type 0 where
   pub near : least ≤ from.reach
 
 -- the new list has this least total at the place, and is the same elsewhere
-abbrev pub HasLeastAt : List Entry → ℕ → Option ℕ → List Entry → Type 0
+abbrev pub HasLeastAt : List Node → ℕ → Option ℕ → List Node → Type 0
 HasLeastAt old place least new =
-    (x : Entry) → slice_get old place ≡ Some x → new ≡ slice_set old place (with_least least x)
+    (x : Node) → slice_get old place ≡ Some x → new ≡ slice_set old place (with_least least x)
 
 -- ---- expansions
 
@@ -198,12 +198,12 @@ pub record Opens (board : Board) (cap : Option ℕ) (from : Expanded) (old new :
 
 -- the position is one of those that the expansion of a position with k pushes opened, or was found before with no more
 -- pushes than it has after one more
-abbrev pub IsKept : List Entry → ℕ → List Opened → Scene → Type 0
+abbrev pub IsKept : List Node → ℕ → List Opened → Scene → Type 0
 IsKept all k opened t = IsOpenedPosition opened t ⊎ IsFoundWithin all (suc k) t
 
 -- an expansion has opened these positions beside those that were found, and left others for later, the least total of
 -- which is `next`
-pub record IsExpansion (board : Board) (cap : Option ℕ) (all : List Entry) (from : Expanded) (opened : List Opened)
+pub record IsExpansion (board : Board) (cap : Option ℕ) (all : List Node) (from : Expanded) (opened : List Opened)
     (next : Option ℕ) :
     Type 0
   where
@@ -212,7 +212,7 @@ pub record IsExpansion (board : Board) (cap : Option ℕ) (all : List Entry) (fr
     pub later : IsLater cap from.reach next
 
 -- the first of the opened positions were found with at most k pushes
-abbrev pub AreEntered : List Entry → List Opened → ℕ → ℕ → Type 0
+abbrev pub AreEntered : List Node → List Opened → ℕ → ℕ → Type 0
 AreEntered all opened k count = (i : ℕ) (o : Opened) → i < count → slice_get opened i ≡ Some o →
     IsFoundWithin all k o.position
 
@@ -234,18 +234,18 @@ abbrev pub AreLeading : Board → List Push → Scene → Type 0
 AreLeading board ps n = (ds : List Dir) × (s : Scene) × Play board Any (start board) ds ps s × IsNorm board s n
 
 -- each position that was found comes from its parent, or is the start
-abbrev pub AreTraced : Board → List Entry → Type 0
+abbrev pub AreTraced : Board → List Node → Type 0
 AreTraced board all =
-    (i : ℕ) (x : Entry) → slice_get all i ≡ Some x → FitsLevel board x.position × ComesFrom board all x x.parent
+    (i : ℕ) (x : Node) → slice_get all i ≡ Some x → FitsLevel board x.position × ComesFrom board all x x.parent
 
 -- with how many pushes the position at the place was found
-abbrev pub pushes_at : List Entry → ℕ → ℕ
+abbrev pub pushes_at : List Node → ℕ → ℕ
 pushes_at [] place = 0
 pushes_at (x ∷ all) zero = x.pushes
 pushes_at (x ∷ all) (suc place) = pushes_at all place
 
 -- the pushes that were read back lead from one position to another, and are no more than what the second has above
 -- the first
-pub record AreReadBack (board : Board) (from to : Entry) (late : List Push) : Type 0 where
+pub record AreReadBack (board : Board) (from to : Node) (late : List Push) : Type 0 where
   pub leading : (ps : List Push) → AreLeading board ps from.position → AreLeading board (ps ++ late) to.position
   pub few : length late + from.pushes ≤ to.pushes

@@ -6,7 +6,7 @@ use Rattle.grid.specs.Board.{Board, is_goal, is_wall, next, opposite}
 use Rattle.prices.specs.Prices.{CanStand, sum_over}
 use Rattle.regions.specs.declared.table.RegionTable.{RegionTable}
 use Rattle.regions.specs.Regions.{AreFinite, CanCome, IsLeft, Region, endless, waste_of}
-use Rattle.regions.specs.inside.Tables.{entry_at, entry_of, high_of, is_seat, low_of, place_of, row_of}
+use Rattle.regions.specs.inside.Tables.{entry_at, byte_for, high_of, is_seat, low_of, place_of, row_of}
 
 -- neither a wall nor a box of the set
 abbrev pub IsVacant : Board → (ℕ → Bool) → ℕ → Type 0
@@ -15,8 +15,8 @@ IsVacant board box q = (is_wall board q ≡ false) × (box q ≡ false)
 -- a step of the player between two squares does not lessen what the row says; nor does the step back, where the second
 -- square has place 0
 pub record Keeps (t : RegionTable) (row z y : ℕ) : Type 0 where
-  pub there : entry_of t row z ≤ entry_of t row y
-  pub back : place_of t y ≡ 0 → entry_of t row y ≤ entry_of t row z
+  pub there : byte_for t row z ≤ byte_for t row y
+  pub back : place_of t y ≡ 0 → byte_for t row y ≤ byte_for t row z
 
 -- so it is with each step from the square
 abbrev pub WalksKeep : Board → RegionTable → (ℕ → Bool) → ℕ → ℕ → Type 0

@@ -21,8 +21,8 @@ abbrev pub box_in : List ℕ → ℕ → ℕ → Bool
 box_in bits set q = not (bit_and set (bit_of bits q) == 0)
 
 -- no other square has a bit of this one
-abbrev pub IsApart : List ℕ → ℕ → Type 0
-IsApart bits x = (q : ℕ) → x ≢ q → bit_and (bit_of bits x) (bit_of bits q) ≡ 0
+abbrev pub HasOwnBit : List ℕ → ℕ → Type 0
+HasOwnBit bits x = (q : ℕ) → x ≢ q → bit_and (bit_of bits x) (bit_of bits q) ≡ 0
 
 -- the player's step from z to y
 abbrev pub walk_in : RegionTable → List ℕ → ℕ → ℕ → WalkStep

@@ -3,11 +3,11 @@ use Rattle.std.specs.Prelude.{ℕ, ◌+◌, ◌*◌, ◌&&◌, ◌==◌, Bool, n
 use Rattle.grid.specs.declared.dir.Dir.{Dir}
 use Rattle.grid.specs.Board.{Scene, dir_number}
 use Rattle.prices.specs.Prices.{sum_over}
-use Rattle.regions.specs.declared.table.Key.{Key}
+use Rattle.regions.specs.declared.table.BoxKey.{BoxKey}
 use Rattle.regions.specs.declared.table.RegionTable.{RegionTable}
 
 -- the key of a square; that of a square where no box is seen past the end
-abbrev pub key_of : RegionTable → ℕ → Key
+abbrev pub key_of : RegionTable → ℕ → BoxKey
 key_of t q = slice_index_or t.keys.items q (record { high = 0; low = 0 })
 
 abbrev pub high_of : RegionTable → ℕ → ℕ
@@ -33,12 +33,12 @@ abbrev pub byte_in : RegionTable → ℕ → ℕ → ℕ
 byte_in t row place = slice_index_or t.bytes.items (row + place) 0
 
 -- what it says, the player being on the square
-abbrev pub entry_of : RegionTable → ℕ → ℕ → ℕ
-entry_of t row p = byte_in t row (place_of t p)
+abbrev pub byte_for : RegionTable → ℕ → ℕ → ℕ
+byte_for t row p = byte_in t row (place_of t p)
 
 -- what the table says of boxes with these sums of keys
 abbrev pub entry_at : RegionTable → ℕ → ℕ → ℕ → ℕ
-entry_at t high low p = entry_of t (row_of t high low) p
+entry_at t high low p = byte_for t (row_of t high low) p
 
 -- what it says of a state
 abbrev pub says : RegionTable → Scene → ℕ

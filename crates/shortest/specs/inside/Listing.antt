@@ -12,7 +12,7 @@ use Rattle.prover.specs.Fewest.{NoneHasFewer}
 use Rattle.prover.specs.Frontier.{IsFoundWithin}
 use Rattle.successors.specs.Distances.{AreDistinct}
 use Rattle.successors.specs.Expansion.{after_push}
-use Rattle.store.specs.Visited.{Entry, VisitedView}
+use Rattle.store.specs.Visited.{Node, VisitedView}
 use Rattle.shortest.specs.Shortest.{IsReachedBy}
 
 -- a level and the fewest pushes of its solutions
@@ -21,30 +21,30 @@ pub record BoundsView : Type 0 where
   pub most : ℕ
 
 -- a play with these pushes leads to the listed state
-pub record IsReachedState (board : Board) (most : ℕ) (x : Entry) : Type 0 where
+pub record IsReachedState (board : Board) (most : ℕ) (x : Node) : Type 0 where
   pub fits : FitsLevel board x.position
   pub reached : IsReachedBy board x.pushes x.position
   pub few : x.pushes ≤ most
 
 -- after k pushes and one more, no play solves the level with at most `most` pushes in all, or the state is listed
-abbrev pub IsListedOrLost : Board → ℕ → List Entry → ℕ → Scene → Push → Type 0
+abbrev pub IsListedOrLost : Board → ℕ → List Node → ℕ → Scene → Push → Type 0
 IsListedOrLost board most all k s p = (m : ℕ) → k + suc m ≡ most → SolvableWithin board m (after_push board s p) →
     IsFoundWithin all (suc k) (after_push board s p)
 
 -- so it is after each push that is possible in the listed state
-abbrev pub KeepsEach : Board → ℕ → List Entry → Entry → Type 0
+abbrev pub KeepsEach : Board → ℕ → List Node → Node → Type 0
 KeepsEach board most all x = (p : Push) → CanPush board x.position p →
     IsListedOrLost board most all x.pushes x.position p
 
 -- the states are listed by their pushes, from the start on, and the first `done` of them are expanded
-pub record AreStatesListed (board : Board) (most done : ℕ) (all : List Entry) : Type 0 where
-  pub begun : (x : Entry) × (slice_get all 0 ≡ Some x) × (x.position ≡ start board) × (x.pushes ≡ 0)
-  pub each : (i : ℕ) (x : Entry) → slice_get all i ≡ Some x → IsReachedState board most x
-  pub sorted : (i j : ℕ) (x y : Entry) → i ≤ j → slice_get all i ≡ Some x → slice_get all j ≡ Some y →
+pub record AreStatesListed (board : Board) (most done : ℕ) (all : List Node) : Type 0 where
+  pub begun : (x : Node) × (slice_get all 0 ≡ Some x) × (x.position ≡ start board) × (x.pushes ≡ 0)
+  pub each : (i : ℕ) (x : Node) → slice_get all i ≡ Some x → IsReachedState board most x
+  pub sorted : (i j : ℕ) (x y : Node) → i ≤ j → slice_get all i ≡ Some x → slice_get all j ≡ Some y →
       x.pushes ≤ y.pushes
-  pub near : (i j : ℕ) (x y : Entry) → done ≤ i → slice_get all i ≡ Some x → slice_get all j ≡ Some y →
+  pub near : (i j : ℕ) (x y : Node) → done ≤ i → slice_get all i ≡ Some x → slice_get all j ≡ Some y →
       y.pushes ≤ suc x.pushes
-  pub expanded : (i : ℕ) (x : Entry) → i < done → slice_get all i ≡ Some x → KeepsEach board most all x
+  pub expanded : (i : ℕ) (x : Node) → i < done → slice_get all i ≡ Some x → KeepsEach board most all x
 
 -- a list for states of the board's size, of which the first `done` are expanded
 pub record IsStateList (board : Board) (most done : ℕ) (v : VisitedView) : Type 0 where
@@ -58,11 +58,11 @@ EndsListing board most limit v true = IsStateList board most (length v.entries) 
 EndsListing board most limit v false = (done : ℕ) × IsStateList board most done v × (limit < length v.entries)
 
 -- the entry is new, or its state is listed with no more pushes and nothing changes
-abbrev pub Lists : List Entry → List Entry → Entry → Type 0
+abbrev pub Lists : List Node → List Node → Node → Type 0
 Lists old new e = ((new ≡ old) × IsFoundWithin old e.pushes e.position) ⊎ (new ≡ old ++ e ∷ [])
 
 -- so it is with a state after `pushes` pushes, if there is one
-abbrev pub ListsIf : List Entry → List Entry → ℕ → Option Scene → Type 0
+abbrev pub ListsIf : List Node → List Node → ℕ → Option Scene → Type 0
 ListsIf old new pushes None = new ≡ old
 ListsIf old new pushes (Some s) =
     Lists old new (record { position = s; pushes = pushes; least = None; parent = None })
@@ -73,11 +73,11 @@ IsAfter board left s p None = ¬ (SolvableWithin board left (after_push board s 
 IsAfter board left s p (Some t) = (t ≡ after_push board s p) × FitsLevel board t
 
 -- the entry at the place has this state and number of pushes
-abbrev pub IsEntryAt : List Entry → ℕ → Scene → ℕ → Type 0
-IsEntryAt all place s k = (x : Entry) × (slice_get all place ≡ Some x) × (x.position ≡ s) × (x.pushes ≡ k)
+abbrev pub IsEntryAt : List Node → ℕ → Scene → ℕ → Type 0
+IsEntryAt all place s k = (x : Node) × (slice_get all place ≡ Some x) × (x.position ≡ s) × (x.pushes ≡ k)
 
 -- of the first pushes, each is kept
-abbrev pub ArePushesKept : Board → ℕ → List Entry → ℕ → Scene → List Push → ℕ → Type 0
+abbrev pub ArePushesKept : Board → ℕ → List Node → ℕ → Scene → List Push → ℕ → Type 0
 ArePushesKept board most all k s pushes count =
     (i : ℕ) (p : Push) → i < count → slice_get pushes i ≡ Some p → IsListedOrLost board most all k s p
 
@@ -85,11 +85,11 @@ ArePushesKept board most all k s pushes count =
 pub record StatesView : Type 0 where
   pub board : Board
   pub most : ℕ
-  pub entries : List Entry
+  pub entries : List Node
 
 -- all states are expanded, each is listed once, and no solution has fewer pushes than `most`
 pub record AreAllExpanded (v : StatesView) : Type 0 where
   pub listed : AreStatesListed v.board v.most (length v.entries) v.entries
-  pub distinct : AreDistinct (map (λ (x : Entry). x.position) v.entries)
+  pub distinct : AreDistinct (map (λ (x : Node). x.position) v.entries)
   pub fewest : NoneHasFewer v.board v.most
   pub range : v.most < 4294967296

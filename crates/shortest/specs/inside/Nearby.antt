@@ -15,7 +15,7 @@ pub record IsListFor (board : Board) (v : VisitedView) : Type 0 where
 
 -- memory for states of the board
 pub record IsMemoryFor (board : Board) (memory : Memory) : Type 0 where
-  pub expander : memory.workspace.expander.task.board ≡ board
+  pub expander : memory.workspace.expander.problem.board ≡ board
   pub walks : length memory.walks ≡ length board.cells
 
 -- a start, bounds and memory of the board

@@ -8,7 +8,7 @@ use Rattle.grid.specs.Plays.{Play, Any}
 use Rattle.area.specs.Pushes.{CanPush}
 use Rattle.prices.specs.Solving.{SolvableWithin}
 use Rattle.successors.specs.Expansion.{after_push}
-use Rattle.store.specs.Visited.{Entry}
+use Rattle.store.specs.Visited.{Node}
 use Rattle.shortest.specs.inside.Listing.{IsEntryAt, StatesView}
 use Rattle.area.specs.WalkLengths.{IsWalkLength}
 use Rattle.shortest.specs.declared.ways.Way.{Way}
@@ -35,9 +35,9 @@ pub record IsRestOf (board : Board) (m : ℕ) (s : Scene) (rest : Option ℕ) : 
   pub small : (v : ℕ) → rest ≡ Some v → v ≤ m * 4294967296
 
 -- the numbers are the fewest moves of the listed states from a place on
-pub record AreRests (board : Board) (most place : ℕ) (all : List Entry) (rests : List (Option ℕ)) : Type 0 where
+pub record AreRests (board : Board) (most place : ℕ) (all : List Node) (rests : List (Option ℕ)) : Type 0 where
   pub many : length rests ≡ length all
-  pub each : (i m : ℕ) (x : Entry) (rest : Option ℕ) → place ≤ i → slice_get all i ≡ Some x →
+  pub each : (i m : ℕ) (x : Node) (rest : Option ℕ) → place ≤ i → slice_get all i ≡ Some x →
       slice_get rests i ≡ Some rest → x.pushes + m ≡ most → IsRestOf board m x.position rest
 
 -- the state with k pushes is listed, is not one of the last, and the fewest moves of the states behind it are known
@@ -54,16 +54,16 @@ IsLeastBy board m s p moves = (ds : List Dir) (ps : List Push) (t : Scene) → P
     IsSolved board t → length ps ≤ m → IsAtMost moves (length ds)
 
 -- the state after a push of a state with k pushes has the place, and this is the fewest moves from it on
-pub record LeadsToEnd (board : Board) (all : List Entry) (rests : List (Option ℕ)) (k : ℕ) (s : Scene) (p : Push)
+pub record LeadsToEnd (board : Board) (all : List Node) (rests : List (Option ℕ)) (k : ℕ) (s : Scene) (p : Push)
     (place rest : ℕ) : Type 0 where
-  pub entry : Entry
+  pub entry : Node
   pub at : slice_get all place ≡ Some entry
   pub there : entry.position ≡ after_push board s p
   pub count : entry.pushes ≡ suc k
   pub rest_is : slice_get rests place ≡ Some (Some rest)
 
 -- a way on from a state with k pushes: a shortest walk behind a box, the push, and the fewest moves after it
-pub record IsWay (board : Board) (all : List Entry) (rests : List (Option ℕ)) (k : ℕ) (s : Scene) (way : Way) : Type 0
+pub record IsWay (board : Board) (all : List Node) (rests : List (Option ℕ)) (k : ℕ) (s : Scene) (way : Way) : Type 0
   where
     pub walk : ℕ
     pub rest : ℕ
@@ -87,9 +87,9 @@ abbrev pub Finishes : Board → Scene → List Push → ℕ → Type 0
 Finishes board s ps v = (ds : List Dir) × (t : Scene) × Play board Any s ds ps t × IsSolved board t × (length ds ≡ v)
 
 -- the pushes that were read lead to the state at the place, from which the fewest moves go on to the end
-pub record IsReading (board : Board) (all : List Entry) (rests : List (Option ℕ)) (total place : ℕ) (read : List Push) :
+pub record IsReading (board : Board) (all : List Node) (rests : List (Option ℕ)) (total place : ℕ) (read : List Push) :
     Type 0 where
-  pub entry : Entry
+  pub entry : Node
   pub rest : ℕ
   pub at : slice_get all place ≡ Some entry
   pub rest_is : slice_get rests place ≡ Some (Some rest)

@@ -3,7 +3,7 @@ use Rattle.std.proofs.Common.{◌≡◌, ℕ, suc, ◌≤◌, true, false, List,
 use Rattle.std.specs.Prelude.{slice_get}
 use Rattle.std.proofs.lemmas.List.{length-append, length-map}
 use Rattle.std.proofs.lemmas.Option.{none-some, same_Some, slice_get-get_or, slice_get_within}
-use Rattle.successors.specs.Tasks.{Task}
+use Rattle.successors.specs.Problems.{Problem}
 use Rattle.grid.specs.Lawful.{IsLevel}
 use Rattle.grid.specs.declared.square.Push.{Push}
 use Rattle.store.specs.Entries.{Origin}
@@ -31,20 +31,20 @@ back_to After before after (same, each) i w at =
     (v, there, subst (After v) (same_Some x.0 w (sym x.1 ∙ at)) x.2)
 
 -- before a search nothing was looked at
-pub none_looked : (task : Task) (limit : ℕ) → IsLookedAt task limit [] 0
-none_looked task limit = record {
+pub none_looked : (problem : Problem) (limit : ℕ) → IsLookedAt problem limit [] 0
+none_looked problem limit = record {
   layers = [];
   trailed = record { each = λ j layer at. absurd (none-some layer at); shown = refl };
-  searched = none_searched task;
+  searched = none_searched problem;
   count = refl;
   within = omega arith;
 }
 
 -- new books are before the first iteration
-pub first_iteration : (task : Task) (limit workers shares : ℕ) (books : List BookView) → length books ≡ shares →
-    ((i : ℕ) (v : BookView) → slice_get books i ≡ Some v → IsNewBook task limit workers i shares v) →
-    AreBetweenLayers (new_search task limit) workers shares books
-first_iteration task limit workers shares books all new = record {
+pub first_iteration : (problem : Problem) (limit workers shares : ℕ) (books : List BookView) → length books ≡ shares →
+    ((i : ℕ) (v : BookView) → slice_get books i ≡ Some v → IsNewBook problem limit workers i shares v) →
+    AreBetweenLayers (new_search problem limit) workers shares books
+first_iteration problem limit workers shares books all new = record {
   dealt = record { all = all; each = λ i v at. (new i v at).made_with };
   paused = λ i v at. ((new i v at).begun, ap length (new i v at).closed.1);
 }
@@ -84,11 +84,11 @@ may_begin s workers shares books layer between next i v at =
 -- then they are at work on it
 pub at_work : (s : SearchView) (workers shares : ℕ) (books after : List BookView) (ranks : ℕ) (layer : LayerView) →
     AreBetweenLayers s workers shares books → IsNextLayer s layer → HaveBegun books ranks after →
-    AreDealt s.task s.limit workers shares after × AreWorkingOn layer after
+    AreDealt s.problem s.limit workers shares after × AreWorkingOn layer after
 at_work s workers shares books after ranks layer between next begun = (
   record {
     all = begun.0 ∙ between.dealt.all;
-    each = λ i w at. (let b = from i w at in subst (IsDealtBook s.task s.limit workers shares i) (sym b.2) (between.dealt.each i b.0 b.1));
+    each = λ i w at. (let b = from i w at in subst (IsDealtBook s.problem s.limit workers shares i) (sym b.2) (between.dealt.each i b.0 b.1));
   },
   λ i w at. (let b = from i w at in subst (IsWorkingOn layer) (sym b.2) (working i b.0 b.1)),
 )
@@ -108,42 +108,42 @@ at_work s workers shares books after ranks layer between next begun = (
 
 -- once they have closed the next layer, the books are between two iterations again
 pub goes_on : (s : SearchView) (workers shares : ℕ) (before after : List BookView) (layer : LayerView) → IsNextLayer s layer →
-    AreDealt s.task s.limit workers shares before → AreWorkingOn layer before → HaveChanged HasClosed before after →
+    AreDealt s.problem s.limit workers shares before → AreWorkingOn layer before → HaveChanged HasClosed before after →
     AreBetweenLayers (with_layer s layer) workers shares after
 goes_on s workers shares before after layer next dealt working closed = record {
   dealt = record { all = closed.0 ∙ dealt.all; each = λ i w at. (through i w at).0 };
   paused = λ i w at. ((through i w at).1, (through i w at).2);
 }
   where
-    through : (i : ℕ) (w : BookView) → slice_get after i ≡ Some w → IsDealtBook s.task s.limit workers shares i w × (w.begun ≡ false)
+    through : (i : ℕ) (w : BookView) → slice_get after i ≡ Some w → IsDealtBook s.problem s.limit workers shares i w × (w.begun ≡ false)
         × (length w.closed ≡ suc (length (s.trail ++ layer.origins ∷ [])))
     through i w at =
         let (v, there, (report, (all, (es, sorted, is, number, count)))) = back_to HasClosed before after closed i w at in
-        subst (λ x. IsDealtBook s.task s.limit workers shares i x × (x.begun ≡ false) × (length x.closed ≡ suc (length (s.trail ++ layer.origins ∷ [])))) (sym is) (
+        subst (λ x. IsDealtBook s.problem s.limit workers shares i x × (x.begun ≡ false) × (length x.closed ≡ suc (length (s.trail ++ layer.origins ∷ [])))) (sym is) (
           dealt.each i v there,
           refl,
           omega (arith, length-append v.closed (es ∷ []), (working i v there).1, next.1, length-append s.trail (layer.origins ∷ [])),
         )
 
 -- where a book is over, and the layers that it has closed were looked at, the answer is the limit
-pub over_limit : (task : Task) (limit positions : ℕ) (trail : List (List (Origin Push))) (book : BookView) → IsLookedAt task limit trail positions →
-    IsLawfulBook book → book.level ≡ task → book.limit ≡ limit → book.over ≡ true → length book.closed ≡ length trail → IsAnswer task limit Limit
-over_limit task limit positions trail book looked lawful level same over long =
+pub over_limit : (problem : Problem) (limit positions : ℕ) (trail : List (List (Origin Push))) (book : BookView) → IsLookedAt problem limit trail positions →
+    IsLawfulBook book → book.level ≡ problem → book.limit ≡ limit → book.over ≡ true → length book.closed ≡ length trail → IsAnswer problem limit Limit
+over_limit problem limit positions trail book looked lawful level same over long =
     let layers = looked.layers in
     let p = (lawful.over over).0 in
     let searched = looked.searched in
-    let lists : length (places_by_layer layers) ≡ length book.closed = length-map layers (λ (x : LayerView). x.places) ∙ trail_long task layers trail looked.trailed
+    let lists : length (places_by_layer layers) ≡ length book.closed = length-map layers (λ (x : LayerView). x.places) ∙ trail_long problem layers trail looked.trailed
     ∙ sym long in record {
       layers = places_by_layer layers;
       are = searched.are;
       more = p.places;
       distinct = p.distinct;
-      next = λ n i. subst (λ k. IsAtDistance task n k) (sym lists) (subst (λ b. IsAtDistance b n (length book.closed)) level (p.next n i).1);
+      next = λ n i. subst (λ k. IsAtDistance problem n k) (sym lists) (subst (λ b. IsAtDistance b n (length book.closed)) level (p.next n i).1);
       passed = omega (
         arith,
         same,
         p.passed,
         closed_upto book lawful (places_by_layer layers) (λ j xs at. subst (λ b. IsLayerOf b j xs) (sym level) (searched.are j xs at)) (omega (arith, lists)),
       );
-      unsolved = searched_bound task (places_by_layer layers) (subst (λ (t : Task). IsLevel t.board) level lawful.level) searched;
+      unsolved = searched_bound problem (places_by_layer layers) (subst (λ (t : Problem). IsLevel t.board) level lawful.level) searched;
     }

@@ -2,7 +2,7 @@
 -- ranks in the books, one for each share of the positions.
 use Rattle.std.specs.Prelude.{◌≡◌, ℕ, suc, ◌+◌, ◌<◌, ◌≤◌, ◌⊎◌, true, false, not, List, length, count_by, slice_get}
 use Rattle.std.specs.Prelude.{slice_index_or, slice_set, Some}
-use Rattle.successors.specs.Tasks.{Task}
+use Rattle.successors.specs.Problems.{Problem}
 use Rattle.layers.specs.LayerView.{LayerView}
 use Rattle.successors.specs.ParcelView.{ParcelView}
 use Rattle.layers.specs.BookView.{BookView, IsDone}
@@ -13,14 +13,14 @@ use Rattle.solo.specs.inside.Searched.{SearchView}
 -- ---- the books of a search
 
 -- the book is a share of the level, made with these numbers
-abbrev pub IsDealtBook : Task → ℕ → ℕ → ℕ → ℕ → BookView → Type 0
-IsDealtBook task limit workers shares share v =
-    (v.level ≡ task) × (v.limit ≡ limit) × (v.workers ≡ workers) × (v.share ≡ share) × (v.shares ≡ shares)
+abbrev pub IsDealtBook : Problem → ℕ → ℕ → ℕ → ℕ → BookView → Type 0
+IsDealtBook problem limit workers shares share v =
+    (v.level ≡ problem) × (v.limit ≡ limit) × (v.workers ≡ workers) × (v.share ≡ share) × (v.shares ≡ shares)
 
 -- the books are all the shares of the level in order, made with these numbers
-pub record AreDealt (task : Task) (limit workers shares : ℕ) (books : List BookView) : Type 0 where
+pub record AreDealt (problem : Problem) (limit workers shares : ℕ) (books : List BookView) : Type 0 where
   pub all : length books ≡ shares
-  pub each : (i : ℕ) (v : BookView) → slice_get books i ≡ Some v → IsDealtBook task limit workers shares i v
+  pub each : (i : ℕ) (v : BookView) → slice_get books i ≡ Some v → IsDealtBook problem limit workers shares i v
 
 -- each of the books has closed this number of layers, and has not begun the last one
 abbrev pub ArePaused : ℕ → List BookView → Type 0
@@ -38,13 +38,13 @@ AreWorkingOn layer books = (i : ℕ) (v : BookView) → slice_get books i ≡ So
 -- between two iterations each of the books, which are all the shares, has closed one layer more than the search looked
 -- at, and has not begun it
 pub record AreBetweenLayers (s : SearchView) (workers shares : ℕ) (books : List BookView) : Type 0 where
-  pub dealt : AreDealt s.task s.limit workers shares books
+  pub dealt : AreDealt s.problem s.limit workers shares books
   pub paused : ArePaused (suc (length s.trail)) books
 
 -- the search goes on: between two iterations, with more positions counted, no more than the limit
 abbrev pub GoesOn : SearchView → SearchView → ℕ → ℕ → List BookView → Type 0
 GoesOn before after workers shares books =
-    AreBetweenLayers after workers shares books × (after.task ≡ before.task) × (after.limit ≡ before.limit) ×
+    AreBetweenLayers after workers shares books × (after.problem ≡ before.problem) × (after.limit ≡ before.limit) ×
     (before.positions < after.positions) × (after.positions ≤ after.limit)
 
 -- ---- a layer begins

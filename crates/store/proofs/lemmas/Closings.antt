@@ -14,7 +14,7 @@ use Rattle.grid.specs.declared.square.Push.{Push}
 use Rattle.grid.specs.Board.{Scene, push_cmp}
 use Rattle.grid.proofs.lemmas.Orders.{push_cmp_total}
 use Rattle.successors.specs.Layered.{IsIn}
-use Rattle.store.specs.Entries.{Origin, origin_cmp, Entry, same_scene, origin_of}
+use Rattle.store.specs.Entries.{Origin, origin_cmp, OpenEntry, same_scene, origin_of}
 use Rattle.store.specs.Entering.{AreReordered}
 use Rattle.successors.proofs.lemmas.Lists.{Distinct}
 use Rattle.store.proofs.lemmas.Offers.{same_itself, same_flipped, open_places, origin-listed, listed-origin}
@@ -58,7 +58,7 @@ moved x xs ys same w =
     (there.0, slice_get-get_or ys there.0 x there.1 ∙ ap Some there.2)
 
 -- entries in another order, none twice, are the same to look up
-pub reordered : (es ys : List (Entry Scene Push)) → IsDistinct same_scene (open_places es) → IsPermutation es ys → AreReordered es ys
+pub reordered : (es ys : List (OpenEntry Scene Push)) → IsDistinct same_scene (open_places es) → IsPermutation es ys → AreReordered es ys
 reordered es ys distinct same = (length_permutation es ys same, λ m. look m (origin_of es m) refl (origin_of ys m) refl, after)
   where
     before : Distinct (open_places es)
@@ -66,7 +66,7 @@ reordered es ys distinct same = (length_permutation es ys same, λ m. look m (or
 
     after : Distinct (open_places ys)
     after = distinct_from (open_places ys) (IsDistinct-IsPermutation same_scene same_flipped (open_places es) (open_places ys)
-        (IsPermutation-map (λ (e : Entry Scene Push). e.0) es ys same) distinct)
+        (IsPermutation-map (λ (e : OpenEntry Scene Push). e.0) es ys same) distinct)
 
     look : (m : Scene) (a : Option (Origin Push)) → origin_of es m ≡ a → (b : Option (Origin Push)) → origin_of ys m ≡ b → origin_of ys m ≡ origin_of es m
     look m (Some o) e b f =

@@ -10,7 +10,7 @@ use Rattle.indexmap.specs.IndexMap.{insert_entry}
 use Rattle.std.specs.Ordering.{is_lt}
 use Rattle.grid.specs.Board.{Scene, push_cmp}
 use Rattle.successors.specs.Layered.{IsIn}
-use Rattle.store.specs.Entries.{Origin, origin_cmp, Entry, lesser, same_scene, origin_of}
+use Rattle.store.specs.Entries.{Origin, origin_cmp, OpenEntry, lesser, same_scene, origin_of}
 use Rattle.successors.specs.declared.parcel.Successor.{Successor}
 use Rattle.store.specs.Entering.{AreWanted, offered, entered}
 use Rattle.std.proofs.lemmas.List.{length-append, length-map}
@@ -49,7 +49,7 @@ same_flipped m n = go (same_scene m n) refl (same_scene n m) refl
     go false e false f = e ∙ sym f
 
 -- what an offered position is open with
-pub origin_of-offered : (es : List (Entry Scene Push)) (m : Scene) (o : Origin Push) → origin_of (offered es m o) m ≡ Some (best push_cmp (origin_of es m) o)
+pub origin_of-offered : (es : List (OpenEntry Scene Push)) (m : Scene) (o : Origin Push) → origin_of (offered es m o) m ≡ Some (best push_cmp (origin_of es m) o)
 origin_of-offered [] m o = ap (λ b. cond b (Some o) None) (same_itself m)
 origin_of-offered (e ∷ es) m o = go (same_scene m e.0) refl (origin_of-offered es m o)
   where
@@ -59,7 +59,7 @@ origin_of-offered (e ∷ es) m o = go (same_scene m e.0) refl (origin_of-offered
     go false f t = ap (λ b. cond b (Some e.1) (origin_of (offered es m o) m)) f ∙ t
 
 -- each other position is open as before
-pub origin_of-other : (es : List (Entry Scene Push)) (m n : Scene) (o : Origin Push) → same_scene n m ≡ false → origin_of (offered es m o) n ≡ origin_of es n
+pub origin_of-other : (es : List (OpenEntry Scene Push)) (m n : Scene) (o : Origin Push) → same_scene n m ≡ false → origin_of (offered es m o) n ≡ origin_of es n
 origin_of-other [] m n o other = ap (λ b. cond b (Some o) None) other
 origin_of-other (e ∷ es) m n o other = go (same_scene m e.0) refl (same_scene n e.0) refl (origin_of-other es m n o other)
   where
@@ -70,11 +70,11 @@ origin_of-other (e ∷ es) m n o other = go (same_scene m e.0) refl (same_scene 
     go false f c g t = ap (λ x. cond (same_scene n e.0) (Some e.1) x) t
 
 -- the positions of the open entries
-abbrev pub open_places : List (Entry Scene Push) → List Scene
+abbrev pub open_places : List (OpenEntry Scene Push) → List Scene
 open_places es = map (λ e. e.0) es
 
 -- an open position has an index among them, and the entry there has its origin
-pub origin-listed : (es : List (Entry Scene Push)) (m : Scene) (o : Origin Push) → origin_of es m ≡ Some o → (i : ℕ) × (slice_get es i ≡ Some (m, o))
+pub origin-listed : (es : List (OpenEntry Scene Push)) (m : Scene) (o : Origin Push) → origin_of es m ≡ Some o → (i : ℕ) × (slice_get es i ≡ Some (m, o))
 origin-listed [] m o e = cc
 origin-listed (x ∷ es) m o e = go (same_scene m x.0) refl e (origin-listed es m o)
   where
@@ -84,7 +84,7 @@ origin-listed (x ∷ es) m o e = go (same_scene m x.0) refl e (origin-listed es 
     go false f g t = let w = t g in (suc w.0, w.1)
 
 -- a position that is not open is not among them
-pub unlisted : (es : List (Entry Scene Push)) (m : Scene) → origin_of es m ≡ None → ¬ (IsIn (open_places es) m)
+pub unlisted : (es : List (OpenEntry Scene Push)) (m : Scene) → origin_of es m ≡ None → ¬ (IsIn (open_places es) m)
 unlisted [] m e w = none-some m w.1
 unlisted (x ∷ es) m e (zero, at) = let h = same_since m x.0 (sym (same_Some x.0 m at)) in none-some x.1 (sym e ∙ ap (λ b. cond b (Some x.1) (origin_of es m)) h)
 unlisted (x ∷ es) m e (suc i, at) = go (same_scene m x.0) e (unlisted es m)
@@ -94,13 +94,13 @@ unlisted (x ∷ es) m e (suc i, at) = go (same_scene m x.0) e (unlisted es m)
     go false f t = t f (i, at)
 
 -- what stands at a place is what is found, where no position stands twice
-pub listed-origin : (es : List (Entry Scene Push)) → Distinct (open_places es) → (i : ℕ) (m : Scene) (o : Origin Push) → slice_get es i ≡ Some (m, o) →
+pub listed-origin : (es : List (OpenEntry Scene Push)) → Distinct (open_places es) → (i : ℕ) (m : Scene) (o : Origin Push) → slice_get es i ≡ Some (m, o) →
     origin_of es m ≡ Some o
 listed-origin es distinct i m o at = go (origin_of es m) refl
   where
-    place : (xs : List (Entry Scene Push)) (j : ℕ) (x : Entry Scene Push) → slice_get xs j ≡ Some x → slice_get (open_places xs) j ≡ Some x.0
+    place : (xs : List (OpenEntry Scene Push)) (j : ℕ) (x : OpenEntry Scene Push) → slice_get xs j ≡ Some x → slice_get (open_places xs) j ≡ Some x.0
     place [] j x e = cc
-    place (y ∷ xs) zero x e = ap (λ (z : Scene). Some z) (ap (λ (z : Entry Scene Push). z.0) (same_Some y x e))
+    place (y ∷ xs) zero x e = ap (λ (z : Scene). Some z) (ap (λ (z : OpenEntry Scene Push). z.0) (same_Some y x e))
     place (y ∷ xs) (suc j) x e = place xs j x e
 
     go : (found : Option (Origin Push)) → origin_of es m ≡ found → origin_of es m ≡ Some o
@@ -109,10 +109,10 @@ listed-origin es distinct i m o at = go (origin_of es m) refl
         let w = origin-listed es m p e in
         let same : i ≡ w.0 = distinct i w.0 m (place es i (m, o) at) (place es w.0 (m, p) w.1) in
         let pair = same_Some (m, p) (m, o) (sym w.1 ∙ ap (slice_get es) (sym same) ∙ at) in
-        e ∙ ap (λ (x : Entry Scene Push). Some x.1) pair
+        e ∙ ap (λ (x : OpenEntry Scene Push). Some x.1) pair
 
 -- an offered position comes last if it is new, and changes no place otherwise
-offered-new : (es : List (Entry Scene Push)) (m : Scene) (o : Origin Push) → origin_of es m ≡ None → open_places (offered es m o) ≡ open_places es ++ m ∷ []
+offered-new : (es : List (OpenEntry Scene Push)) (m : Scene) (o : Origin Push) → origin_of es m ≡ None → open_places (offered es m o) ≡ open_places es ++ m ∷ []
 offered-new [] m o e = refl
 offered-new (x ∷ es) m o e = go (same_scene m x.0) refl e (offered-new es m o)
   where
@@ -122,7 +122,7 @@ offered-new (x ∷ es) m o e = go (same_scene m x.0) refl e (offered-new es m o)
     go true f g t = absurd (none-some x.1 (sym g))
     go false f g t = ap (λ xs. x.0 ∷ xs) (t g)
 
-offered-present : (es : List (Entry Scene Push)) (m : Scene) (o p : Origin Push) → origin_of es m ≡ Some p → open_places (offered es m o) ≡ open_places es
+offered-present : (es : List (OpenEntry Scene Push)) (m : Scene) (o p : Origin Push) → origin_of es m ≡ Some p → open_places (offered es m o) ≡ open_places es
 offered-present [] m o p e = cc
 offered-present (x ∷ es) m o p e = go (same_scene m x.0) refl e (offered-present es m o p)
   where
@@ -132,7 +132,7 @@ offered-present (x ∷ es) m o p e = go (same_scene m x.0) refl e (offered-prese
     go true f g t = refl
     go false f g t = ap (λ xs. x.0 ∷ xs) (t g)
 
-pub offered-distinct : (es : List (Entry Scene Push)) (m : Scene) (o : Origin Push) → Distinct (open_places es) → Distinct (open_places (offered es m o))
+pub offered-distinct : (es : List (OpenEntry Scene Push)) (m : Scene) (o : Origin Push) → Distinct (open_places es) → Distinct (open_places (offered es m o))
 offered-distinct es m o distinct = go (origin_of es m) refl
   where
     go : (found : Option (Origin Push)) → origin_of es m ≡ found → Distinct (open_places (offered es m o))
@@ -140,7 +140,7 @@ offered-distinct es m o distinct = go (origin_of es m) refl
     go (Some p) e = subst Distinct (sym (offered-present es m o p e)) distinct
 
 -- what holds of each place and of the offered position holds of each place after
-pub offered-each : (P : Scene → Type 0) (es : List (Entry Scene Push)) (m : Scene) (o : Origin Push) → P m → ((n : Scene) → IsIn (open_places es) n → P n) →
+pub offered-each : (P : Scene → Type 0) (es : List (OpenEntry Scene Push)) (m : Scene) (o : Origin Push) → P m → ((n : Scene) → IsIn (open_places es) n → P n) →
     (n : Scene) → IsIn (open_places (offered es m o)) n → P n
 offered-each P es m o here each n = go (origin_of es m) refl
   where
@@ -157,7 +157,7 @@ offered-each P es m o here each n = go (origin_of es m) refl
 -- ---- the same by a map's insert
 
 -- an offer that is no less than what is there changes nothing
-pub offered-kept : (es : List (Entry Scene Push)) (m : Scene) (o a : Origin Push) → origin_of es m ≡ Some a → is_lt (origin_cmp push_cmp o a) ≡ false →
+pub offered-kept : (es : List (OpenEntry Scene Push)) (m : Scene) (o a : Origin Push) → origin_of es m ≡ Some a → is_lt (origin_cmp push_cmp o a) ≡ false →
     offered es m o ≡ es
 offered-kept [] m o a e f = cc
 offered-kept (x ∷ es) m o a e f = go (same_scene m x.0) e (offered-kept es m o a)
@@ -168,7 +168,7 @@ offered-kept (x ∷ es) m o a e f = go (same_scene m x.0) e (offered-kept es m o
     go false h t = ap (λ ys. x ∷ ys) (t h f)
 
 -- a lesser offer, or one of a new position, is what an insert leaves
-pub offered-less : (es : List (Entry Scene Push)) (m : Scene) (o a : Origin Push) → origin_of es m ≡ Some a → is_lt (origin_cmp push_cmp o a) ≡ true →
+pub offered-less : (es : List (OpenEntry Scene Push)) (m : Scene) (o a : Origin Push) → origin_of es m ≡ Some a → is_lt (origin_cmp push_cmp o a) ≡ true →
     insert_entry same_scene es m o ≡ offered es m o
 offered-less [] m o a e f = refl
 offered-less (x ∷ es) m o a e f = go (same_scene m x.0) e (offered-less es m o a)
@@ -179,7 +179,7 @@ offered-less (x ∷ es) m o a e f = go (same_scene m x.0) e (offered-less es m o
     go true h t = let k = ap (λ y. is_lt (origin_cmp push_cmp o y)) (same_Some x.1 a h) ∙ f in λ i. (x.0, if sym k i then o else x.1) ∷ es
     go false h t = ap (λ ys. x ∷ ys) (t h f)
 
-pub offered_first : (es : List (Entry Scene Push)) (m : Scene) (o : Origin Push) → origin_of es m ≡ None → insert_entry same_scene es m o ≡ offered es m o
+pub offered_first : (es : List (OpenEntry Scene Push)) (m : Scene) (o : Origin Push) → origin_of es m ≡ None → insert_entry same_scene es m o ≡ offered es m o
 offered_first [] m o e = refl
 offered_first (x ∷ es) m o e = go (same_scene m x.0) e (offered_first es m o)
   where
@@ -194,26 +194,26 @@ on_ok (Err e) is h = cc
 
 -- ---- how many positions are new
 
-pub length-offered : (es : List (Entry Scene Push)) (m : Scene) (o : Origin Push) → length (offered es m o) ≡ length es + cond (is_some (origin_of es m)) 0 1
+pub length-offered : (es : List (OpenEntry Scene Push)) (m : Scene) (o : Origin Push) → length (offered es m o) ≡ length es + cond (is_some (origin_of es m)) 0 1
 length-offered es m o = go (origin_of es m) refl
   where
     go : (found : Option (Origin Push)) → origin_of es m ≡ found → length (offered es m o) ≡ length es + cond (is_some found) 0 1
     go None e = omega (
       arith,
-      length-map (offered es m o) (λ (x : Entry Scene Push). x.0),
-      length-map es (λ (x : Entry Scene Push). x.0),
+      length-map (offered es m o) (λ (x : OpenEntry Scene Push). x.0),
+      length-map es (λ (x : OpenEntry Scene Push). x.0),
       ap length (offered-new es m o e),
       length-append (open_places es) (m ∷ []),
     )
     go (Some p) e = omega (
       arith,
-      length-map (offered es m o) (λ (x : Entry Scene Push). x.0),
-      length-map es (λ (x : Entry Scene Push). x.0),
+      length-map (offered es m o) (λ (x : OpenEntry Scene Push). x.0),
+      length-map es (λ (x : OpenEntry Scene Push). x.0),
       ap length (offered-present es m o p e),
     )
 
 -- a wanted position is open after a successor has entered if it was before or is the successor's
-open-entered : (wanted : Scene → Bool) (rank : ℕ) (es : List (Entry Scene Push)) (s : Successor) (m : Scene) → wanted m ≡ true →
+open-entered : (wanted : Scene → Bool) (rank : ℕ) (es : List (OpenEntry Scene Push)) (s : Successor) (m : Scene) → wanted m ≡ true →
     is_some (origin_of (entered wanted rank es s) m) ≡ (is_some (origin_of es m) || same_scene s.position m)
 open-entered wanted rank es s m want = go (same_scene s.position m) refl
   where
@@ -244,7 +244,7 @@ open-entered wanted rank es s m want = go (same_scene s.position m) refl
     go false e = other (apart (same_scene m s.position) refl e) (wanted s.position) ∙ sym (or_false (is_some (origin_of es m)))
 
 -- open entries are wanted after a successor has entered, if they were before
-pub entered_wanted : (wanted : Scene → Bool) (rank : ℕ) (es : List (Entry Scene Push)) (s : Successor) → AreWanted wanted es →
+pub entered_wanted : (wanted : Scene → Bool) (rank : ℕ) (es : List (OpenEntry Scene Push)) (s : Successor) → AreWanted wanted es →
     AreWanted wanted (entered wanted rank es s)
 entered_wanted wanted rank es s are m there = go (wanted s.position) refl (same_scene m s.position) refl there
   where
@@ -255,7 +255,7 @@ entered_wanted wanted rank es s are m there = go (wanted s.position) refl (same_
     go false want b e f = are m f
 
 -- after some have entered, if it was before or is one of theirs
-pub open-after : (wanted : Scene → Bool) (rank : ℕ) (ss : List Successor) (es : List (Entry Scene Push)) (m : Scene) → wanted m ≡ true →
+pub open-after : (wanted : Scene → Bool) (rank : ℕ) (ss : List Successor) (es : List (OpenEntry Scene Push)) (m : Scene) → wanted m ≡ true →
     is_some (origin_of (fold (entered wanted rank) es ss) m) ≡ (is_some (origin_of es m) || list_any (λ s. same_scene s.position m) ss)
 open-after wanted rank [] es m want = or_false (is_some (origin_of es m))
   where
@@ -272,13 +272,13 @@ open-after wanted rank (s ∷ ss) es m want =
     or_or false b c = refl
 
 -- one more successor enters after the others
-pub entered_more : (wanted : Scene → Bool) (rank : ℕ) (ss : List Successor) (es : List (Entry Scene Push)) (s : Successor) →
+pub entered_more : (wanted : Scene → Bool) (rank : ℕ) (ss : List Successor) (es : List (OpenEntry Scene Push)) (s : Successor) →
     fold (entered wanted rank) es (ss ++ s ∷ []) ≡ entered wanted rank (fold (entered wanted rank) es ss) s
 entered_more wanted rank [] es s = refl
 entered_more wanted rank (t ∷ ss) es s = entered_more wanted rank ss (entered wanted rank es t) s
 
 -- so one more successor makes one position more if it is wanted, was not open and is no earlier one's
-pub length-entered : (wanted : Scene → Bool) (rank : ℕ) (ss : List Successor) (es : List (Entry Scene Push)) (s : Successor) →
+pub length-entered : (wanted : Scene → Bool) (rank : ℕ) (ss : List Successor) (es : List (OpenEntry Scene Push)) (s : Successor) →
     length (fold (entered wanted rank) es (ss ++ s ∷ [])) ≡ length (fold (entered wanted rank) es ss) + cond (wanted s.position &&
     not (is_some (origin_of es s.position) || list_any (λ t. same_scene t.position s.position) ss)) 1 0
 length-entered wanted rank ss es s = ap length (entered_more wanted rank ss es s) ∙ go (wanted s.position) refl

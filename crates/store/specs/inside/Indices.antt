@@ -4,7 +4,7 @@ use Rattle.std.specs.Map.{keys_of}
 use Rattle.grid.specs.declared.square.Push.{Push}
 use Rattle.grid.specs.Board.{Scene}
 use Rattle.store.specs.declared.batches.TheConstants.{NOWHERE}
-use Rattle.store.specs.Entries.{Closed, Entry}
+use Rattle.store.specs.Entries.{Closed, OpenEntry}
 
 -- the position is that of the entry at the index
 abbrev pub HasKeyAt : List Closed → ℕ → Scene → Type 0
@@ -15,7 +15,7 @@ abbrev pub IsIndexOf : List Closed → ℕ → Scene → Type 0
 IsIndexOf es place m = place ≢ NOWHERE → HasKeyAt es place m
 
 -- there is an index for each offer: that of its position, or NOWHERE
-pub record AreIndicesOf (es : List Closed) (offers : List (Entry Scene Push)) (places : List ℕ) : Type 0 where
+pub record AreIndicesOf (es : List Closed) (offers : List (OpenEntry Scene Push)) (places : List ℕ) : Type 0 where
   pub many : length offers ≤ length places
-  pub each : (i : ℕ) (o : Entry Scene Push) → slice_get offers i ≡ Some o →
+  pub each : (i : ℕ) (o : OpenEntry Scene Push) → slice_get offers i ≡ Some o →
       IsIndexOf es (slice_index_or places i 0) o.0

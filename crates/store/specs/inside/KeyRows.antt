@@ -9,15 +9,15 @@ use Rattle.std.specs.Hash.FoldHasher as folding
 use Rattle.grid.specs.declared.square.Push.{Push}
 use Rattle.grid.specs.Board.{Scene}
 use Rattle.grid.specs.Rising.{is_rising}
-use Rattle.store.specs.Entries.{Entry, same_scene}
+use Rattle.store.specs.Entries.{OpenEntry, same_scene}
 use Rattle.successors.specs.declared.parcel.Successor.{Successor}
 use Rattle.store.specs.FoundView.{AreBelow}
 
 -- n bytes: the first of xs, and then zeros
-abbrev pub padded : ℕ → List ℕ → List ℕ
-padded zero xs = []
-padded (suc n) [] = 0 ∷ padded n []
-padded (suc n) (x ∷ xs) = x ∷ padded n xs
+abbrev pub zero_padded : ℕ → List ℕ → List ℕ
+zero_padded zero xs = []
+zero_padded (suc n) [] = 0 ∷ zero_padded n []
+zero_padded (suc n) (x ∷ xs) = x ∷ zero_padded n xs
 
 abbrev pub low_bytes : List ℕ → List ℕ
 low_bytes xs = map (λ x. x % 256) xs
@@ -49,8 +49,8 @@ pub record IsKey (n k count : ℕ) (low high : List ℕ) : Type 0 where
   pub capacity : count < n
   pub counted : count ≡ length (key_scene count low high).boxes
   pub rising : is_rising (key_scene count low high).boxes ≡ true
-  pub low_is : low ≡ padded n (low_bytes (key_squares (key_scene count low high)))
-  pub high_is : high ≡ padded k (high_bytes (key_squares (key_scene count low high)))
+  pub low_is : low ≡ zero_padded n (low_bytes (key_squares (key_scene count low high)))
+  pub high_is : high ≡ zero_padded k (high_bytes (key_squares (key_scene count low high)))
 
 -- a position has a key with n low and k high bytes: it has fewer than n boxes, and without high bytes its squares are
 -- below 256
@@ -70,20 +70,20 @@ pub record SuitsLevel (n k boxes squares : ℕ) : Type 0 where
 -- the row of high bytes, unless it is empty
 abbrev pub high_writes : ℕ → Scene → fed.HashWrites
 high_writes zero m = []
-high_writes (suc k) m = padded (suc k) (high_bytes (key_squares m)) ∷ []
+high_writes (suc k) m = zero_padded (suc k) (high_bytes (key_squares m)) ∷ []
 
 -- the rows of a key that are hashed
 abbrev pub key_writes : ℕ → ℕ → Scene → fed.HashWrites
-key_writes n k m = padded n (low_bytes (key_squares m)) ∷ high_writes k m
+key_writes n k m = zero_padded n (low_bytes (key_squares m)) ∷ high_writes k m
 
 -- the number that a key passes to a hasher: the hash of its rows
 unfoldable pub key_digest : ℕ → ℕ → Scene → ℕ
 key_digest n k m = folding.finish (fold folding.write folding.initial (key_writes n k m))
 
 -- the digests of the keys of offers
-abbrev pub AreDigests : ℕ → ℕ → List (Entry Scene Push) → List ℕ → Type 0
+abbrev pub AreDigests : ℕ → ℕ → List (OpenEntry Scene Push) → List ℕ → Type 0
 AreDigests n k offers digests =
-    (i : ℕ) (o : Entry Scene Push) → slice_get offers i ≡ Some o → slice_index_or digests i 0 ≡ key_digest n k o.0
+    (i : ℕ) (o : OpenEntry Scene Push) → slice_get offers i ≡ Some o → slice_index_or digests i 0 ≡ key_digest n k o.0
 
 -- equal positions have equal digests
 pub digests_alike : (n k : ℕ) (s t : Scene) → IsTrue (same_scene s t) → key_digest n k s ≡ key_digest n k t

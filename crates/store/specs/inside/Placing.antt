@@ -3,7 +3,7 @@ use Rattle.std.specs.Prelude.{◌≡◌, ℕ, suc, ◌+◌, ◌<◌, false, List
 use Rattle.std.specs.Ordering.{is_gt}
 use Rattle.grid.specs.declared.square.Push.{Push}
 use Rattle.grid.specs.Board.{Scene, push_cmp}
-use Rattle.store.specs.Entries.{Origin, Entry, origin_cmp, Closed}
+use Rattle.store.specs.Entries.{Origin, OpenEntry, origin_cmp, Closed}
 use Rattle.store.specs.FoundView.{seen_of}
 
 -- the origin of an open entry, and its index
@@ -11,7 +11,7 @@ abbrev pub Row : Type 0
 Row = Origin Push × ℕ
 
 -- the rows of entries, with indices from k on
-abbrev pub rows_of : ℕ → List (Entry Scene Push) → List Row
+abbrev pub rows_of : ℕ → List (OpenEntry Scene Push) → List Row
 rows_of k [] = []
 rows_of k (w ∷ ws) = (w.1, k) ∷ rows_of (suc k) ws
 

@@ -15,7 +15,7 @@ use Rattle.grid.proofs.lemmas.Plays.{play-append, play_first, play_last, play_an
 use Rattle.area.specs.Area.{at, IsNorm}
 use Rattle.area.proofs.lemmas.Norms.{norm_unique, norm_along_walk}
 use Rattle.doom.specs.Deadlocks.{Doomed, Undoomed}
-use Rattle.successors.specs.Tasks.{Task}
+use Rattle.successors.specs.Problems.{Problem}
 use Rattle.successors.specs.Reaching.{Reaches, IsLayerOf}
 use Rattle.successors.specs.Expansion.{IsSuccessor, after_push}
 use Rattle.area.specs.Pushes.{CanPush}
@@ -100,6 +100,6 @@ pub reached_safe : (board : Board) (ps : List Push) (n : Scene) → Reaches boar
 reached_safe board ps n (ds, t, play, norm) = subst (λ (boxes : Squares). ¬ (Doomed board boxes)) (sym norm.boxes) (play_last play)
 
 -- no position of a layer is doomed
-pub layer_safe : (task : Task) (k : ℕ) (places : List Scene) → IsLayerOf task k places → (r : ℕ) (n : Scene) → slice_get places r ≡ Some n →
-    Undoomed task.board n
-layer_safe task k places layer r n here = let lead = (layer.leads r n here).1 in reached_safe task.board lead.0 n lead.1.reached
+pub layer_safe : (problem : Problem) (k : ℕ) (places : List Scene) → IsLayerOf problem k places → (r : ℕ) (n : Scene) → slice_get places r ≡ Some n →
+    Undoomed problem.board n
+layer_safe problem k places layer r n here = let lead = (layer.leads r n here).1 in reached_safe problem.board lead.0 n lead.1.reached

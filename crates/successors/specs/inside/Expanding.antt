@@ -5,12 +5,12 @@ use Rattle.area.specs.After.{IsAreaOf}
 use Rattle.area.specs.Reach.{Reach}
 use Rattle.doom.specs.inside.Dangers.{AreDangers}
 use Rattle.successors.specs.declared.parcel.Slots.{Slots}
-use Rattle.successors.specs.declared.pushing.Parent.{Parent}
+use Rattle.successors.specs.declared.pushing.ParentPosition.{ParentPosition}
 use Rattle.successors.specs.inside.Sums.{AreSums}
 
 -- the position may be played on the level, the dead squares are the level's, the last flood was that of the position,
 -- and the dangers are those of its boxes
-pub record IsReady (parent : Parent) (reach : Reach) : Type 0 where
+pub record IsReady (parent : ParentPosition) (reach : Reach) : Type 0 where
   pub fits : FitsLevel parent.level.now parent.position.now
   pub dead_of_level : parent.dead.now ≡ parent.level.now
   pub room : reach.size ≡ length parent.level.now.cells

@@ -17,13 +17,13 @@ abbrev pub BeginsWithItem : List ℕ → Run → List ℕ → Type 0
 BeginsWithItem piece run rest = (item : List ℕ) × IsItem item (replicate run.count run.cell) × (piece ≡ item ++ rest)
 
 -- a number, or the greatest that a `usize` holds where it is more
-abbrev pub capped : ℕ → ℕ
-capped n = min n (2 ^ 64 - 1)
+abbrev pub saturated : ℕ → ℕ
+saturated n = min n (2 ^ 64 - 1)
 
 -- the size of rows
 pub record IsSize (size : Size) (rows : List (List Cell)) : Type 0 where
-  pub row_count : size.rows ≡ capped (length rows)
-  pub col_count : size.cols ≡ capped (cols_of rows)
+  pub row_count : size.rows ≡ saturated (length rows)
+  pub col_count : size.cols ≡ saturated (cols_of rows)
 
 -- the cells of the rows of a row line are appended, each row with floor on the right up to the columns
 abbrev pub AppendsRows : List ℕ → ℕ → List Cell → List Cell → Type 0
@@ -36,7 +36,7 @@ IsNoRow piece = (row : List Cell) → ¬ (IsRow piece row)
 
 -- the bytes are a row, of so many cells without the floor at its end
 abbrev pub IsRowOfLength : List ℕ → ℕ → Type 0
-IsRowOfLength piece n = (row : List Cell) × IsRow piece row × (n ≡ capped (length (cut_row row)))
+IsRowOfLength piece n = (row : List Cell) × IsRow piece row × (n ≡ saturated (length (cut_row row)))
 
 -- a line without the line feed that ends it, and without a carriage return before that
 abbrev pub cut_line : List ℕ → List ℕ

@@ -23,7 +23,7 @@ work_through-requires-clause-level g c κs within =
     let layer = c.in_ok-layer.layer in
     let join : IsJoinOf c.args.books.items layer = subst (λ bs. IsJoinOf bs layer) c.as_slice.ensures.value c.in_ok-layer.ensures in
     (next_layer c.args.settings.now.config c.args.state.now.search c.args.books.items c.requires.limits c.requires.paused layer join).0
-    ∙ ap (λ (s : SearchView). s.task) (sym c.look.ensures.same)
+    ∙ ap (λ (s : SearchView). s.problem) (sym c.look.ensures.same)
 
 pub work_through-requires-clause-may : goal.work_through-requires-clause-may
 work_through-requires-clause-may g c κs within =

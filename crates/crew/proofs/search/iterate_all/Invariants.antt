@@ -7,7 +7,7 @@ abbrev pub invariant-loop-state : goal.invariant-loop-state
 invariant-loop-state g l = record {
   paused : ArePausedBy l.settings.config l.state.search l.books.items;
   own : IsStateOf l.settings.config l.state;
-  task : l.state.search.task ≡ l.fn.state.search.task;
+  problem : l.state.search.problem ≡ l.fn.state.search.problem;
   limit : l.state.search.limit ≡ l.fn.state.search.limit;
 }
 

@@ -3,7 +3,7 @@ use Rattle.std.specs.Prelude.{IfSome}
 use Rattle.std.specs.Arc.{arc_value}
 use Rattle.grid.specs.Lawful.{box_count}
 use Rattle.grid.specs.declared.limits.TheConstants.{MAX_BOXES}
-use Rattle.successors.specs.Tasks.{Task}
+use Rattle.successors.specs.Problems.{Problem}
 use Rattle.successors.specs.Capping.{capped}
 use Rattle.solo.specs.Answers.{IsAnswer}
 use Rattle.crew.proofs.search.search.Goals as goal
@@ -11,9 +11,9 @@ use Rattle.crew.proofs.search.search.Goals as goal
 pub search_by-requires-clause-boxes : goal.search_by-requires-clause-boxes
 search_by-requires-clause-boxes g c κs within =
     let same : arc_value c.in_ok-problem-2.problem ≡ capped (arc_value c.args.level.now) c.args.config.cap = search rules in
-    subst (λ (task : Task). box_count task.board ≤ MAX_BOXES) (sym same) c.requires.boxes
+    subst (λ (problem : Problem). box_count problem.board ≤ MAX_BOXES) (sym same) c.requires.boxes
 
 pub returns : goal.returns
 returns g c =
     let same : arc_value c.in_ok-problem-2.problem ≡ capped (arc_value c.args.level.now) c.args.config.cap = search rules in
-    subst (λ task. IfOk c.search_by.result (λ found. IfSome found (λ answer. IsAnswer task c.args.config.limit answer))) same c.search_by.ensures
+    subst (λ problem. IfOk c.search_by.result (λ found. IfSome found (λ answer. IsAnswer problem c.args.config.limit answer))) same c.search_by.ensures

@@ -5,7 +5,7 @@ use Rattle.grid.specs.Masks.{has_bit}
 use Rattle.grid.specs.States.{FitsLevel}
 use Rattle.area.specs.Pushes.{ArePushes, CanPush}
 use Rattle.successors.specs.Expanding.{ExpanderView, HasPushesOf}
-use Rattle.successors.specs.Tasks.{Task}
+use Rattle.successors.specs.Problems.{Problem}
 use Rattle.corrals.specs.Corrals.{IsClosure}
 use Rattle.corrals.specs.Sets.{SetsView}
 use Rattle.prices.specs.Helping.{SlackView}
@@ -17,7 +17,7 @@ use Rattle.prover.proofs.expansion.open_all.Goals as goal
 
 pub find_pushes-requires : goal.find_pushes-requires
 find_pushes-requires c = record {
-  fits = subst (λ (t : Task). FitsLevel t.board c.args.from.now.position) (sym c.requires.task)
+  fits = subst (λ (t : Problem). FitsLevel t.board c.args.from.now.position) (sym c.requires.problem)
       c.requires.expandable.fits;
 }
 
@@ -29,7 +29,7 @@ try_push-requires-clause-possible c =
     let end : length c.pushes-index-end.result.now ≡ length c.find_pushes.new.self.pushes = ap length c.pushes-index-end.ensures in
     let same : length ps ≡ length c.find_pushes.new.self.pushes = ap (λ (v : ExpanderView). length v.pushes) was.same in
     let read : length c.pushes.result.now ≡ length ps = ap length c.pushes.ensures in
-    subst (λ (t : Task). CanPush t.board c.args.from.now.position p) was.task
+    subst (λ (t : Problem). CanPush t.board c.args.from.now.position p) was.problem
     (was.found.pushes.each c.loop-index.index p
     (read_push c.pushes.result.now ps c.loop-index.index p c.pushes.ensures (omega (arith, end, same, read, c.loop-index-test.true)) c.index-pushes-index.is))
 
@@ -62,7 +62,7 @@ loop-index-preserved c =
     let taken = taken_more board lower before after (IsChosen only held) k s ps c.loop-index.index p
     (kept_on all k c.loop-index.workspace.opened.items c.try_push.new.workspace.opened.items now.opens.still) here narrowed now.taken in
     record {
-      task = ap (λ (v : ExpanderView). v.task) kept.0 ∙ was.task;
+      problem = ap (λ (v : ExpanderView). v.problem) kept.0 ∙ was.problem;
       found = subst (λ (v : ExpanderView). HasPushesOf v s) (sym kept.0) was.found;
       same = kept.0 ∙ was.same;
       corral = kept.1 ∙ was.corral;
@@ -87,7 +87,7 @@ returns-clause-expansion c =
     let end : length c.pushes-index-end.result.now ≡ length c.find_pushes.new.self.pushes = ap length c.pushes-index-end.ensures in
     let same : length ps ≡ length c.find_pushes.new.self.pushes = ap (λ (v : ExpanderView). length v.pushes) was.same in
     let over : length ps ≤ c.loop-index.index = omega (arith, end, same, c.loop-index-test.false) in
-    let pushes : ArePushes board s ps = subst (λ (t : Task). ArePushes t.board s ps) was.task was.found.pushes in
+    let pushes : ArePushes board s ps = subst (λ (t : Problem). ArePushes t.board s ps) was.problem was.found.pushes in
     let closure : IsTrue only → (m : ℕ) → Allows left m → (room : ℕ → Bool) × IsClosure board (suc m) (has_bit held) room s = λ told m allowed. (
       has_bit c.find-only.new.corral.room,
       subst (λ (v : SetsView). IsClosure board (suc m) (has_bit v.held) (has_bit c.find-only.new.corral.room) s) (sym was.corral)

@@ -5,7 +5,7 @@ use Rattle.prover.proofs.expansion.open_all.Given as goal
 
 abbrev pub invariant-loop-index : goal.invariant-loop-index
 invariant-loop-index l = record {
-  task : l.workspace.expander.task ≡ l.pruner;
+  problem : l.workspace.expander.problem ≡ l.pruner;
   found : HasPushesOf l.workspace.expander l.from.position;
   same : l.workspace.expander ≡ l.initial.workspace.expander;
   corral : l.workspace.corral ≡ l.initial.workspace.corral;

@@ -3,7 +3,7 @@ use Rattle.grid.specs.States.{FitsLevel}
 use Rattle.area.specs.Area.{IsNorm}
 use Rattle.store.proofs.lemmas.Fitting.{level_fits}
 use Rattle.successors.specs.Expansion.{after_push}
-use Rattle.successors.specs.Tasks.{Task}
+use Rattle.successors.specs.Problems.{Problem}
 use Rattle.prover.specs.declared.pushing.Opened.{Opened}
 use Rattle.prover.specs.Frontier.{IsReachedAfter, IsBound, IsFoundWithin, IsTotal, NoneGoesOn}
 use Rattle.prover.specs.inside.Working.{IsKept, IsPushDone, tighter}
@@ -18,7 +18,7 @@ has_within-found-requires c =
     let p = c.args.push in
     let n = c.in-Some.after in
     let made : IsNorm board (after_push board s p) n × FitsLevel board n =
-    subst (λ (t : Task). IsNorm t.board (after_push t.board s p) n × FitsLevel t.board n) c.requires.task c.in-Some.ensures.made in
+    subst (λ (t : Problem). IsNorm t.board (after_push t.board s p) n × FitsLevel t.board n) c.requires.problem c.in-Some.ensures.made in
     level_fits board c.args.frontier.now.boxes c.args.frontier.now.squares n c.requires.size.0 c.requires.size.1 made.1
 
 pub allowed_total-requires-clause-reached : goal.allowed_total-requires-clause-reached
@@ -29,7 +29,7 @@ allowed_total-requires-clause-reached c =
     let k = c.args.from.now.pushes in
     let n = c.in-Some.after in
     let made : IsNorm board (after_push board s p) n × FitsLevel board n =
-    subst (λ (t : Task). IsNorm t.board (after_push t.board s p) n × FitsLevel t.board n) c.requires.task c.in-Some.ensures.made in
+    subst (λ (t : Problem). IsNorm t.board (after_push t.board s p) n × FitsLevel t.board n) c.requires.problem c.in-Some.ensures.made in
     let one : suc k ≡ k + 1 = omega arith in
     subst (λ (j : ℕ). IsReachedAfter board j n) one
     (reached_after board k s n p c.requires.expandable.fits.scene c.requires.possible made.0 c.requires.expandable.reached)
@@ -46,7 +46,7 @@ returns-then-found-clause-taken c =
     let next = c.args.workspace.now.next in
     let Kept = IsKept all k c.args.workspace.now.opened.items in
     let made : IsNorm board (after_push board s p) n × FitsLevel board n =
-    subst (λ (t : Task). IsNorm t.board (after_push t.board s p) n × FitsLevel t.board n) c.requires.task c.in-Some.ensures.made in
+    subst (λ (t : Problem). IsNorm t.board (after_push t.board s p) n × FitsLevel t.board n) c.requires.problem c.in-Some.ensures.made in
     let one : k + 1 ≡ suc k = omega arith in
     taken_less board cap (tighter cap next) Kept k s p (loosened cap next)
     (taken_found board cap Kept k s n p c.requires.expandable.fits.scene c.requires.possible made.0
@@ -62,7 +62,7 @@ returns-in_default-allowed_total-clause-taken c =
     let n = c.in-Some.after in
     let scene = c.requires.expandable.fits.scene in
     let made : IsNorm board (after_push board s p) n × FitsLevel board n =
-    subst (λ (t : Task). IsNorm t.board (after_push t.board s p) n × FitsLevel t.board n) c.requires.task c.in-Some.ensures.made in
+    subst (λ (t : Problem). IsNorm t.board (after_push t.board s p) n × FitsLevel t.board n) c.requires.problem c.in-Some.ensures.made in
     let one : k + 1 ≡ suc k = omega arith in
     taken_less board cap (tighter cap c.args.workspace.now.next) (IsKept c.args.frontier.now.entries k c.args.workspace.now.opened.items) k s p
     (loosened cap c.args.workspace.now.next)
@@ -80,7 +80,7 @@ returns-then-total-from-clause-taken c =
     let total = c.in-Some-allowed_total.total in
     let scene = c.requires.expandable.fits.scene in
     let made : IsNorm board (after_push board s p) n × FitsLevel board n =
-    subst (λ (t : Task). IsNorm t.board (after_push t.board s p) n × FitsLevel t.board n) c.requires.task c.in-Some.ensures.made in
+    subst (λ (t : Problem). IsNorm t.board (after_push t.board s p) n × FitsLevel t.board n) c.requires.problem c.in-Some.ensures.made in
     let one : k + 1 ≡ suc k = omega arith in
     subst (λ (o : Option ℕ). IsPushDone board (tighter cap o) (IsKept c.args.frontier.now.entries k c.args.workspace.now.opened.items) k s p) (sym c.lesser-workspace.ensures)
     (taken_later board cap (IsKept c.args.frontier.now.entries k c.args.workspace.now.opened.items) k total s n p c.args.workspace.now.next scene c.requires.possible made.0
@@ -104,7 +104,7 @@ returns-clause-taken c =
     let old = c.args.workspace.now.opened.items in
     let new = c.push.new.self.items in
     let made : IsNorm board (after_push board s p) n × FitsLevel board n =
-    subst (λ (t : Task). IsNorm t.board (after_push t.board s p) n × FitsLevel t.board n) c.requires.task c.in-Some.ensures.made in
+    subst (λ (t : Problem). IsNorm t.board (after_push t.board s p) n × FitsLevel t.board n) c.requires.problem c.in-Some.ensures.made in
     let o : Opened = (record { position = n; push = p; total = c.in-Some-allowed_total.total }) in
     taken_less board cap (tighter cap next) (IsKept c.args.frontier.now.entries k new) k s p (loosened cap next)
     (taken_found board cap (IsKept c.args.frontier.now.entries k new) k s n p c.requires.expandable.fits.scene c.requires.possible made.0
@@ -120,7 +120,7 @@ returns-clause-opens c =
     let n = c.in-Some.after in
     let total = c.in-Some-allowed_total.total in
     let made : IsNorm board (after_push board s p) n × FitsLevel board n =
-    subst (λ (t : Task). IsNorm t.board (after_push t.board s p) n × FitsLevel t.board n) c.requires.task c.in-Some.ensures.made in
+    subst (λ (t : Problem). IsNorm t.board (after_push t.board s p) n × FitsLevel t.board n) c.requires.problem c.in-Some.ensures.made in
     let one : k + 1 ≡ suc k = omega arith in
     let is : IsTotal board cap (suc k) n total = subst (λ (j : ℕ). IsTotal board cap j n total) one c.in-Some-allowed_total.ensures.total in
     let o : Opened = (record { position = n; push = p; total = total }) in

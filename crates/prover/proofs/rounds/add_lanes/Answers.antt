@@ -7,7 +7,7 @@ use Rattle.prover.proofs.rounds.add_lanes.Goals as goal
 
 pub loop-preserved : goal.loop-preserved
 loop-preserved c =
-    let task = c.args.pruner.now in
+    let problem = c.args.pruner.now in
     let old = c.loop.lanes.items in
     let lane = c.in_ok-lane.lane in
     let items = c.in_ok-push.ensures.items in
@@ -15,6 +15,6 @@ loop-preserved c =
     let size = ap (λ (xs : List Lane). length xs) items in
     let long = length-append old (lane ∷ []) in
     record {
-      lanes = λ all start. subst (AreLanes task all) (sym items) (each_push (IsLane task all) old lane (c.in_ok-lane.ensures all) (c.loop.invariant.lanes all start));
+      lanes = λ all start. subst (AreLanes problem all) (sym items) (each_push (IsLane problem all) old lane (c.in_ok-lane.ensures all) (c.loop.invariant.lanes all start));
       more = omega (arith, more, size, long);
     }

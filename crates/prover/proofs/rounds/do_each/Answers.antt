@@ -1,4 +1,4 @@
--- What a lane holds after its thread is what the jobs of that lane have found.
+-- What a lane holds after its thread is what the picks of that lane have found.
 use Rattle.std.proofs.Common.{◌<◌, ◌∙◌, length, sym, subst, arith}
 use Rattle.std.proofs.lemmas.Option.{get_or_from_slice_get, slice_get_within}
 use Rattle.prover.specs.inside.Rounds.{IsLane}

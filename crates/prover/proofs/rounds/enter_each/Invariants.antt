@@ -8,6 +8,6 @@ invariant-loop-index l = record {
   searched : IsSearchOnBoard l.pruner.board l.pruner.cap l.frontier;
   lanes : AreLanes l.pruner l.frontier.entries l.lanes;
   goes_on : GetsOn l.fn.frontier.entries l.frontier.entries;
-  task : l.workspace.expander.task ≡ l.pruner;
-  same : l.workspace.expander.task ≡ l.fn.workspace.expander.task;
+  problem : l.workspace.expander.problem ≡ l.pruner;
+  same : l.workspace.expander.problem ≡ l.fn.workspace.expander.problem;
 }

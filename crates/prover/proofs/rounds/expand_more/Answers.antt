@@ -1,4 +1,4 @@
--- The lanes that were dealt to are those whose jobs are done and entered.
+-- The lanes that were dealt to are those whose picks are done and entered.
 use Rattle.std.proofs.Common.{◌≡◌, ◌∙◌, arith, length, subst, sym}
 use Rattle.std.specs.Vec.{with_items}
 use Rattle.store.specs.Visited.{VisitedView}
@@ -42,7 +42,7 @@ returns-clause-desk g c =
     let long : length done ≡ dealt.len = omega (arith, all, size) in
     let all = c.deal.new.frontier.entries in
     on_ok_so c.enter_each.result (λ on. record {
-      task = c.enter_each.ensures.task ∙ c.requires.desk.task;
+      problem = c.enter_each.ensures.problem ∙ c.requires.desk.problem;
       lanes = lanes_on c.args.pruner.now all c.enter_each.new.frontier.entries (with_items dealt done).items on.still
           (each_back (IsLane c.args.pruner.now all) dealt done long c.do_each.ensures.lanes);
     }) c.enter_each.ensures.goes_on

@@ -62,7 +62,7 @@ expand-requires-clause-ready g c =
 
 pub expand_more-requires-clause-desk : goal.expand_more-requires-clause-desk
 expand_more-requires-clause-desk g c κs within = record {
-  task = c.expand.ensures.task ∙ c.loop-desk.invariant.desk.task;
+  problem = c.expand.ensures.problem ∙ c.loop-desk.invariant.desk.problem;
   lanes = lanes_on c.args.pruner.now c.loop-desk.frontier.entries c.expand.new.frontier.entries c.loop-desk.desk.lanes.items
       (subst (λ (v : VisitedView). KeepPlaces v.entries c.expand.new.frontier.entries) c.least_open.ensures.same c.in_ok-expand.ensures.goes_on.still)
       c.loop-desk.invariant.desk.lanes;

@@ -1,5 +1,5 @@
 use Rattle.std.proofs.Common.{◌+◌, ap, arith, refl}
-use Rattle.regions.specs.declared.table.Key.{Key}
+use Rattle.regions.specs.declared.table.BoxKey.{BoxKey}
 use Rattle.regions.specs.inside.Tables.{high_of, low_of, waste_in}
 use Rattle.regions.proofs.Each.{first_and_rest}
 use Rattle.regions.proofs.Sets.{end_of, next_of}
@@ -30,6 +30,6 @@ returns t c = λ yes. (
     (first_and_rest c.args.rest.now c.first-item.result c.in-len1-up.len_at_least c.first-item.is)
     c.bit_of-own.ensures c.if-own-eq0.false c.if-bits-own-ne0.false c.requires.apart
     (c.sets_pass.ensures c.if-not-sets_pass.false)
-    (let e = c.in-Some.ensures in let k = ap (λ (k : Key). k.high) key in omega (arith, e, k))
-    (let e = c.in-Some-checked_add.ensures in let k = ap (λ (k : Key). k.low) key in omega (arith, e, k)) (λ some. c.sets_pass-2.ensures yes)
+    (let e = c.in-Some.ensures in let k = ap (λ (k : BoxKey). k.high) key in omega (arith, e, k))
+    (let e = c.in-Some-checked_add.ensures in let k = ap (λ (k : BoxKey). k.low) key in omega (arith, e, k)) (λ some. c.sets_pass-2.ensures yes)
     )

@@ -3,7 +3,7 @@ use Rattle.grid.specs.Board.{Board}
 use Rattle.grid.specs.States.{FitsLevel}
 use Rattle.area.specs.Pushes.{ArePushes, CanPush}
 use Rattle.successors.specs.Expanding.{ExpanderView, HasPushesOf}
-use Rattle.successors.specs.Tasks.{Task}
+use Rattle.successors.specs.Problems.{Problem}
 use Rattle.shortest.specs.inside.Listing.{ArePushesKept}
 use Rattle.shortest.proofs.Layering.{after_fits, expanded_on, fits_at, pushed_on, read_push}
 use Rattle.shortest.proofs.listing.list_after.Goals as goal
@@ -16,7 +16,7 @@ find_pushes-requires c = record {
 
 pub loop-index-init : goal.loop-index-init
 loop-index-init c = record {
-  board = ap (λ (t : Task). t.board) c.find_pushes.ensures.task ∙ c.requires.board;
+  board = ap (λ (t : Problem). t.board) c.find_pushes.ensures.problem ∙ c.requires.board;
   found = c.find_pushes.ensures.found;
   same = refl;
   listing = c.requires.listing;
@@ -60,7 +60,7 @@ loop-index-preserved c =
     c.state_after-after.ensures.after c.in_ok-list_if_some.ensures.lists was.kept in
     let size = c.list_if_some.ensures.size in
     record {
-      board = ap (λ (v : ExpanderView). v.task.board) kept ∙ was.board;
+      board = ap (λ (v : ExpanderView). v.problem.board) kept ∙ was.board;
       found = subst (λ (v : ExpanderView). HasPushesOf v s) (sym kept) was.found;
       same = kept ∙ was.same;
       listing = record { listed = step.0; boxes = size.0 ∙ was.listing.boxes; squares = size.1 ∙ was.listing.squares };

@@ -5,7 +5,7 @@ use Rattle.shortest.proofs.listing.list_after.Given as goal
 
 abbrev pub invariant-loop-index : goal.invariant-loop-index
 invariant-loop-index l = record {
-  board : l.workspace.expander.task.board ≡ l.bounds.board;
+  board : l.workspace.expander.problem.board ≡ l.bounds.board;
   found : HasPushesOf l.workspace.expander l.from.state;
   same : l.workspace.expander ≡ l.initial.workspace.expander;
   listing : IsStateList l.bounds.board l.bounds.most l.place l.listed;

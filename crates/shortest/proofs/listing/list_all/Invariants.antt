@@ -6,7 +6,7 @@ abbrev pub invariant-loop-place : goal.invariant-loop-place
 invariant-loop-place l = record {
   same : l.bounds ≡ l.fn.bounds;
   listing : IsStateList l.fn.bounds.board l.fn.bounds.most l.place l.listed;
-  board : l.workspace.expander.task.board ≡ l.fn.bounds.board;
+  board : l.workspace.expander.problem.board ≡ l.fn.bounds.board;
 }
 
 abbrev pub decreases-loop-place : goal.decreases-loop-place

@@ -3,7 +3,7 @@ use Rattle.grid.specs.Board.{Board}
 use Rattle.grid.specs.States.{FitsLevel}
 use Rattle.area.specs.Pushes.{CanPush}
 use Rattle.successors.specs.Expanding.{ExpanderView, HasPushesOf}
-use Rattle.successors.specs.Tasks.{Task}
+use Rattle.successors.specs.Problems.{Problem}
 use Rattle.shortest.proofs.Layering.{read_push}
 use Rattle.shortest.proofs.near.expand.Goals as goal
 
@@ -15,7 +15,7 @@ find_pushes-requires c = record {
 pub loop-index-init : goal.loop-index-init
 loop-index-init c = record {
   ready = record {
-    expander = ap (λ (t : Task). t.board) c.find_pushes.ensures.task ∙ c.requires.ready.expander;
+    expander = ap (λ (t : Problem). t.board) c.find_pushes.ensures.problem ∙ c.requires.ready.expander;
     walks = c.measure.ensures.room ∙ c.requires.ready.walks;
   };
   found = c.find_pushes.ensures.found;

@@ -5,7 +5,7 @@ use Rattle.solo.proofs.alone.iterate.Given as goal
 abbrev pub invariant-loop-answer : goal.invariant-loop-answer
 invariant-loop-answer l = record {
   between : AreBetweenLayers l.search 1 1 l.books;
-  task : l.search.task ≡ l.fn.search.task;
+  problem : l.search.problem ≡ l.fn.search.problem;
   limit : l.search.limit ≡ l.fn.search.limit;
 }
 

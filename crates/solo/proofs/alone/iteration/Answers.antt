@@ -23,7 +23,7 @@ begin_each-requires c =
 pub do_rest-requires-clause-level : goal.do_rest-requires-clause-level
 do_rest-requires-clause-level c =
     (next_of c.args.search.now 1 1 c.args.books.now c.in_ok-layer.layer (omega arith) c.requires c.in_ok-layer.ensures).0
-    ∙ ap (λ (v : SearchView). v.task) (sym c.look.ensures.same)
+    ∙ ap (λ (v : SearchView). v.problem) (sym c.look.ensures.same)
 
 pub do_rest-requires-clause-few : goal.do_rest-requires-clause-few
 do_rest-requires-clause-few c = omega (arith, c.in_ok-begin_each.ensures.ok.0, c.requires.dealt.all)
@@ -50,7 +50,7 @@ returns-in_default-2-clause-answer c =
     let working = at_work s 1 1 books mid (length layer.places) layer c.requires next c.in_ok-begin_each.ensures.ok in
     let examined = subst (λ found. IfNone found (IsExamined s layer)) c.in_default.is c.in_ok-answer.ensures.onward in
     let passed : PassTogether c.look.new.self.limit after = rw c.in_default-2.is at c.in_ok-do_rest.ensures.passed in
-    together_limit s 1 1 after layer (omega arith) next examined (still_dealt s.task s.limit 1 1 layer mid after working.0 still)
+    together_limit s 1 1 after layer (omega arith) next examined (still_dealt s.problem s.limit 1 1 layer mid after working.0 still)
     (still_working layer mid after working.1 still) (subst (λ (v : SearchView). PassTogether v.limit after) c.look.ensures.same passed)
 
 pub returns-clause-onward : goal.returns-clause-onward
@@ -64,7 +64,7 @@ returns-clause-onward c =
     ∙ ap (λ (v : SearchView). with_layer v layer) (c.do_rest.ensures.same ∙ c.look.ensures.same) in
     let closed = all_closed done done after (rw c.in-Some-2.is at c.in_ok-do_rest.ensures.done).0 (none_closed done) c.in_ok-close_rest.ensures.ok in
     subst (λ v. GoesOn s v 1 1 after) (sym grown) (
-      goes_on s 1 1 done after layer next (still_dealt s.task s.limit 1 1 layer mid done working.0 still) (still_working layer mid done working.1 still) closed,
+      goes_on s 1 1 done after layer next (still_dealt s.problem s.limit 1 1 layer mid done working.0 still) (still_working layer mid done working.1 still) closed,
       refl,
       refl,
       omega (arith, examined.filled),

@@ -2,7 +2,7 @@ use Rattle.std.proofs.Common.{◌≡◌, Some, ap, ◌∙◌}
 use Rattle.std.proofs.lemmas.Result.{IfOk-weaker}
 use Rattle.std.specs.Prelude.{slice_get}
 use Rattle.grid.specs.Board.{Scene}
-use Rattle.successors.specs.Tasks.{Task}
+use Rattle.successors.specs.Problems.{Problem}
 use Rattle.solo.specs.Leads.{WritesLead, level_of, last_places}
 use Rattle.successors.specs.LeastPlays.{WritesLeastPlay}
 use Rattle.solo.proofs.ReadingBack.{first_level, own_trail, lead_played, lead_moves}
@@ -14,7 +14,7 @@ play_pushes-requires-clause-played c =
     let first = first_level layers c.requires.layers c.index-layers-0.result c.index-layers-0.is in
     let lead = c.in_ok-pushes.ensures (level_of layers) layers (own_trail layers c.requires.layers c.tell_each.ensures) c.requires.rank in
     lead_played (level_of layers) c.level.result.now (last_places layers) c.args.rank c.in_ok-pushes.pushes.items c.as_slice.result.now
-    (c.level.ensures ∙ ap (λ (t : Task). t.board) first) c.as_slice.ensures.value lead
+    (c.level.ensures ∙ ap (λ (t : Problem). t.board) first) c.as_slice.ensures.value lead
 
 pub returns-clause-lead : goal.returns-clause-lead
 returns-clause-lead c =
@@ -25,4 +25,4 @@ returns-clause-lead c =
     (λ moves. (t : Scene) × WritesLeastPlay c.level.result.now c.as_slice.result.now t moves)
     (λ moves. (n : Scene) → slice_get (last_places layers) c.args.rank ≡ Some n → WritesLead (level_of layers).board n moves)
     (λ moves w. lead_moves (level_of layers) c.level.result.now (last_places layers) c.args.rank c.in_ok-pushes.pushes.items c.as_slice.result.now moves
-    (c.level.ensures ∙ ap (λ (t : Task). t.board) first) c.as_slice.ensures.value lead w) c.play_pushes.ensures.least
+    (c.level.ensures ∙ ap (λ (t : Problem). t.board) first) c.as_slice.ensures.value lead w) c.play_pushes.ensures.least

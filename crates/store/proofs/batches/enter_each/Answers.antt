@@ -4,7 +4,7 @@ use Rattle.std.proofs.lemmas.Option.{slice_get_read}
 use Rattle.std.specs.Prelude.{slice_index_or}
 use Rattle.grid.specs.declared.square.Push.{Push}
 use Rattle.grid.specs.Board.{Scene}
-use Rattle.store.specs.Entries.{Entry}
+use Rattle.store.specs.Entries.{OpenEntry}
 use Rattle.store.specs.FoundView.{seen_of, open_of, let_in, all_let_in}
 use Rattle.store.specs.inside.Indices.{IsIndexOf}
 use Rattle.store.proofs.PendingOffers.{let_in_more}
@@ -24,9 +24,9 @@ pub loop-nth-preserved : goal.loop-nth-preserved
 loop-nth-preserved g c =
     let os = c.args.offers.now in let i = c.loop-nth.nth in let start = c.args.start in
     let es = c.args.table.now.entries in
-    let e : Entry Scene Push = c.index-offers-nth.result in
+    let e : OpenEntry Scene Push = c.index-offers-nth.result in
     let more : take (i + 1) os ≡ take i os ++ e ∷ [] = take_more os i e c.loop-nth-test.true ∙
-    ap (λ (x : Entry Scene Push). take i os ++ x ∷ []) (sym c.index-offers-nth.is) in (
+    ap (λ (x : OpenEntry Scene Push). take i os ++ x ∷ []) (sym c.index-offers-nth.is) in (
       c.enter_at.ensures.waiting
           ∙ (λ n. let_in (c.loop-nth.invariant.3 n) (c.loop-nth.invariant.0 n) e)
           ∙ sym (let_in_more (seen_of start es) (open_of start es) (take i os) e) ∙ ap (λ xs. all_let_in (seen_of start es) (open_of start es) xs) (sym more),

@@ -2,7 +2,7 @@ use Rattle.std.proofs.Common.{◌≡◌, ◌∷◌, [], ◌++◌, ◌+◌, List,
 use Rattle.std.specs.Ordering.{is_lt}
 use Rattle.grid.specs.declared.square.Push.{Push}
 use Rattle.grid.specs.Board.{Scene, push_cmp}
-use Rattle.store.specs.Entries.{Origin, Entry, origin_cmp, Closed}
+use Rattle.store.specs.Entries.{Origin, OpenEntry, origin_cmp, Closed}
 use Rattle.store.specs.Entering.{RiseByOrigin}
 use Rattle.store.specs.FoundView.{NoneExceed, open_of, open_entry}
 use Rattle.successors.proofs.lemmas.Lists.{take_short}
@@ -12,7 +12,7 @@ use Rattle.store.proofs.closing.do_rise.Goals as goal
 
 pub loop-index-init : goal.loop-index-init
 loop-index-init g c =
-    subst (λ (ws : List (Entry Scene Push)). RiseByOrigin ws × NoneExceed ws c.opened-last.result) (sym (open_none c.args.start c.args.table.now.entries))
+    subst (λ (ws : List (OpenEntry Scene Push)). RiseByOrigin ws × NoneExceed ws c.opened-last.result) (sym (open_none c.args.start c.args.table.now.entries))
     (rise_none c.opened-last.result)
 
 pub loop-index-preserved : goal.loop-index-preserved
@@ -28,7 +28,7 @@ loop-index-preserved g c =
     let ws : open_of start (take index es) ++ open_entry e ∷ [] ≡ open_of start (take (index + 1) es) = sym (open_more start index es e (omega arith) there.1) ∙
     ap (λ k. open_of start (take k es)) (sym (add-one index)) in
     subst (λ (p : Origin Push). RiseByOrigin (open_of start (take (index + 1) es)) × NoneExceed (open_of start (take (index + 1) es)) p) (sym o)
-    (subst (λ (xs : List (Entry Scene Push)). RiseByOrigin xs × NoneExceed xs (open_entry e).1) ws more)
+    (subst (λ (xs : List (OpenEntry Scene Push)). RiseByOrigin xs × NoneExceed xs (open_entry e).1) ws more)
 
 pub returns-clause-rise : goal.returns-clause-rise
 returns-clause-rise g c =

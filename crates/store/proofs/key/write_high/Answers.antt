@@ -1,7 +1,7 @@
 use Rattle.std.proofs.Common.{◌≡◌, ◌+◌, ◌/◌, ◌∷◌, [], ◌++◌, length, set, take, ap, sym, ◌∙◌, arith}
 use Rattle.std.proofs.lemmas.List.{take_more}
 use Rattle.successors.proofs.lemmas.Lists.{take_short}
-use Rattle.store.specs.inside.KeyRows.{high_bytes, padded}
+use Rattle.store.specs.inside.KeyRows.{high_bytes, zero_padded}
 use Rattle.store.proofs.Bytes.{first_written, long, no_room, no_row, more_written, zeros}
 use Rattle.store.proofs.key.write_high.Goals as goal
 
@@ -27,7 +27,7 @@ loop-index-preserved c =
 pub returns : goal.returns
 returns c =
     c.loop-index.invariant.0
-    ∙ ap (λ xs. padded (length c.args.row.now) (high_bytes (c.args.player ∷ xs)))
+    ∙ ap (λ xs. zero_padded (length c.args.row.now) (high_bytes (c.args.player ∷ xs)))
     (take_short c.args.boxes.now c.loop-index.index (omega (arith, c.loop-index-test.false, c.loop-index.auto.index-end)))
 
 pub returns-then-row-boxes : goal.returns-then-row-boxes

@@ -1,6 +1,6 @@
 use Rattle.std.proofs.Common.{◌≡◌, ◌∷◌, length, take}
-use Rattle.store.specs.inside.KeyRows.{high_bytes, padded}
+use Rattle.store.specs.inside.KeyRows.{high_bytes, zero_padded}
 use Rattle.store.proofs.key.write_high.Given as goal
 
 abbrev pub invariant-loop-index : goal.invariant-loop-index
-invariant-loop-index l = (l.row ≡ padded (length l.fn.row) (high_bytes (l.fn.player ∷ take l.index l.boxes))) × (length l.row ≡ length l.fn.row)
+invariant-loop-index l = (l.row ≡ zero_padded (length l.fn.row) (high_bytes (l.fn.player ∷ take l.index l.boxes))) × (length l.row ≡ length l.fn.row)

@@ -2,7 +2,7 @@ use Rattle.std.proofs.Common.{◌≡◌, ◌+◌, ◌<◌, ◌%◌, ◌/◌, ◌
 use Rattle.std.proofs.lemmas.List.{take_more}
 use Rattle.successors.proofs.lemmas.Lists.{take_short}
 use Rattle.store.specs.declared.key.TheConstants.{SHORT}
-use Rattle.store.specs.inside.KeyRows.{high_bytes, low_bytes, padded}
+use Rattle.store.specs.inside.KeyRows.{high_bytes, low_bytes, zero_padded}
 use Rattle.store.proofs.Bytes.{first_written, more_written}
 use Rattle.store.proofs.key.write_short.Goals as goal
 
@@ -27,10 +27,10 @@ loop-index-preserved c =
 
 pub returns-clause-low : goal.returns-clause-low
 returns-clause-low c =
-    c.loop-index.invariant.0 ∙ ap (λ xs. padded SHORT (low_bytes (c.args.player ∷ xs)))
+    c.loop-index.invariant.0 ∙ ap (λ xs. zero_padded SHORT (low_bytes (c.args.player ∷ xs)))
     (take_short c.args.boxes.now c.loop-index.index (omega (arith, c.loop-index-test.false, c.min-index-end.ensures, c.requires.capacity)))
 
 pub returns-clause-high : goal.returns-clause-high
 returns-clause-high c =
-    c.loop-index.invariant.1 ∙ ap (λ xs. padded SHORT (high_bytes (c.args.player ∷ xs)))
+    c.loop-index.invariant.1 ∙ ap (λ xs. zero_padded SHORT (high_bytes (c.args.player ∷ xs)))
     (take_short c.args.boxes.now c.loop-index.index (omega (arith, c.loop-index-test.false, c.min-index-end.ensures, c.requires.capacity)))

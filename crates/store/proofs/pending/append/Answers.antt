@@ -1,7 +1,7 @@
 use Rattle.std.proofs.Common.{◌≡◌, ℕ, ◌%◌, ◌++◌, ◌∷◌, [], List, sym, ap, ◌∙◌, if◌then◌else◌}
 use Rattle.grid.specs.declared.square.Push.{Push}
 use Rattle.grid.specs.Board.{Scene}
-use Rattle.store.specs.Entries.{Entry}
+use Rattle.store.specs.Entries.{OpenEntry}
 use Rattle.successors.specs.Shares.{share_of}
 use Rattle.successors.specs.declared.parcel.Successor.{Successor}
 use Rattle.store.proofs.Tails.{same_number, other_number}
@@ -20,6 +20,6 @@ pub returns-clause-items : goal.returns-clause-items
 returns-clause-items g c =
     let s : Successor = c.args.successor.now in
     let told : c.share_by.result ≡ share_of c.args.shares s.position = c.share_by.ensures ∙ ap (λ (n : ℕ). n % c.args.shares) c.requires.sum in
-    let before : List (Entry Scene Push) = c.args.pending.now.items in
+    let before : List (OpenEntry Scene Push) = c.args.pending.now.items in
     let e = same_number (share_of c.args.shares s.position) c.args.share (sym told ∙ c.if-share_by-share.false) in
-    ◌∙◌ {A = List (Entry Scene Push)} c.append_offer.ensures.items (λ i. before ++ (if sym e i then (s.position, (c.args.rank, s.push)) ∷ [] else []))
+    ◌∙◌ {A = List (OpenEntry Scene Push)} c.append_offer.ensures.items (λ i. before ++ (if sym e i then (s.position, (c.args.rank, s.push)) ∷ [] else []))

@@ -15,7 +15,7 @@ told x y e = grind (arith, nat_tests)
 pub returns : goal.returns
 returns c =
     let a = c.self.inside in let b = c.first.inside in
-    let task : arc_value a.problem ≡ arc_value b.problem = sym c.deref.ensures ∙ c.is.ensures.0 c.if-not-is.false ∙ c.deref-else-self-index.ensures in
+    let problem : arc_value a.problem ≡ arc_value b.problem = sym c.deref.ensures ∙ c.is.ensures.0 c.if-not-is.false ∙ c.deref-else-self-index.ensures in
     let lists_a : length c.args.self.now.closed ≡ length a.starts.items = ap (λ (v : BookView). length v.closed) (sym c.self.view_is)
     ∙ length-cut_at a.starts.items a.found.seen in
     let lists_b : length c.args.first.now.closed ≡ length b.starts.items = ap (λ (v : BookView). length v.closed) (sym c.first.view_is)
@@ -23,7 +23,7 @@ returns c =
     let long_b : c.len-2.result ≡ length c.args.first.now.closed = omega (arith, c.len-2.ensures, lists_b) in (
       λ same. (
         ap (λ (v : BookView). v.share) (sym c.self.view_is) ∙ c.if-self-index.false,
-        ap (λ (v : BookView). v.level) (sym c.self.view_is) ∙ task ∙ ap (λ (v : BookView). v.level) c.first.view_is,
+        ap (λ (v : BookView). v.level) (sym c.self.view_is) ∙ problem ∙ ap (λ (v : BookView). v.level) c.first.view_is,
         ap (λ (v : BookView). v.limit) (sym c.self.view_is) ∙ c.if-self-first.false ∙ ap (λ (v : BookView). v.limit) c.first.view_is,
         ap (λ (v : BookView). v.shares) (sym c.self.view_is) ∙ c.if-self-first-2.false ∙ ap (λ (v : BookView). v.shares) c.first.view_is,
         sym long_a ∙ decided c.len.result c.len-2.result same ∙ long_b,

@@ -27,7 +27,7 @@ use denote.Triple.Table.{entered}
 use denote.Triple.Walked.{says, Stays, stay_dropped, walk_of, ends_at, walk_Meets, Goes-dropped}
 use Rattle.sokopar.proofs.Walks.{none, none_made}
 use Rattle.sokopar.specs.contracts.trail.Trail as Trail
-use Rattle.sokopar.specs.contracts.trail.Event as Event
+use Rattle.sokopar.specs.contracts.trail.Transfer as Transfer
 use Rattle.sokopar.specs.inside.Trail.{after}
 use Rattle.sokopar.specs.contracts.trail.Trail.then as F
 use Rattle.sokopar.specs.contracts.trail.Trail.then.Key.{name as #self}
@@ -78,7 +78,7 @@ module _ {M : Type 1} {𝓤 : Ura M} (𝓛 : Logic 𝓤) (at_mem : Memory → SP
   meets 𝓣 =
       walk_Meets 𝓛 ended stayed (
         Goes-dropped 𝓛 3 (RefOf (0 ∷ []) tt (plain (λ _. Trail.the_row)) (λ _. tt)) yes (λ κs x f. refl),
-        (Goes-dropped 𝓛 3 (RefOf (1 ∷ []) tt (plain (λ κs. Event.the_row (named_lft 3 2 tt κs))) (λ _. tt)) yes (λ κs x f. refl), tt),
+        (Goes-dropped 𝓛 3 (RefOf (1 ∷ []) tt (plain (λ κs. Transfer.the_row (named_lft 3 2 tt κs))) (λ _. tt)) yes (λ κs x f. refl), tt),
       ) held
       (WpFn 𝓤 H 𝓣.C 𝓣.Λ function) (WpFn-mono 𝓤 H 𝓛.laws 𝓣 function) (walks 𝓣.C 𝓣.Λ)
 

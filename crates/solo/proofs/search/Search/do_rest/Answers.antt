@@ -4,7 +4,7 @@ use Rattle.std.proofs.lemmas.List.{length-set}
 use Rattle.std.proofs.lemmas.Option.{slice_get-get_or}
 use Rattle.layers.specs.Books.{AllDone}
 use Rattle.layers.specs.Holding.{all_held, held}
-use Rattle.successors.specs.Tasks.{Task}
+use Rattle.successors.specs.Problems.{Problem}
 use Rattle.solo.specs.inside.Searched.{SearchView}
 use Rattle.solo.specs.inside.Together.{AreAllDone, AreStill, IsFullBook, PassTogether}
 use Rattle.solo.specs.inside.Iterations.{AreDoneBy}
@@ -17,8 +17,8 @@ pub loop-index-init : goal.loop-index-init
 loop-index-init c = record {
   done = none_changed (IsDoneWith c.args.layer.now c.args.worker) c.args.books.now;
   few = c.requires.few;
-  size = c.self.invariant.1 ∙ ap (λ (v : SearchView). length v.task.board.cells) c.self.view_is
-      ∙ ap (λ (t : Task). length t.board.cells) (sym c.requires.level);
+  size = c.self.invariant.1 ∙ ap (λ (v : SearchView). length v.problem.board.cells) c.self.view_is
+      ∙ ap (λ (t : Problem). length t.board.cells) (sym c.requires.level);
 }
 
 pub do_rest_of-requires-clause-begun : goal.do_rest_of-requires-clause-begun

@@ -11,7 +11,7 @@ use Rattle.successors.proofs.expander.Expander.try_push.Goals as goal
 
 pub push_in-requires-clause-flooded : goal.push_in-requires-clause-flooded
 push_in-requires-clause-flooded c =
-    subst (λ (v : ExpanderView). IsAreaOf v.task.board c.args.position.now v.reached) (sym c.self.view_is) c.requires.found.flooded
+    subst (λ (v : ExpanderView). IsAreaOf v.problem.board c.args.position.now v.reached) (sym c.self.view_is) c.requires.found.flooded
 
 pub invariant_of-self : goal.invariant_of-self
 invariant_of-self c =
@@ -21,6 +21,6 @@ invariant_of-self c =
 
 pub returns-clause-successor : goal.returns-clause-successor
 returns-clause-successor c =
-    subst (λ (v : ExpanderView). Undoomed v.task.board c.args.position.now →
-    MatchOption c.push_in.result ((m : Scene) → ¬ (IsSuccessor v.task.board c.args.position.now c.args.push m))
-    (λ after. IsSuccessor v.task.board c.args.position.now c.args.push after)) c.self.view_is c.push_in.ensures.successor
+    subst (λ (v : ExpanderView). Undoomed v.problem.board c.args.position.now →
+    MatchOption c.push_in.result ((m : Scene) → ¬ (IsSuccessor v.problem.board c.args.position.now c.args.push m))
+    (λ after. IsSuccessor v.problem.board c.args.position.now c.args.push after)) c.self.view_is c.push_in.ensures.successor

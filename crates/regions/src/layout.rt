@@ -1,14 +1,14 @@
 //! The places of a region and the pulls of boxes there. They have no contract: the table that they fill is checked.
 
 use crate::rows::{MOST_PLACES, MOST_SEATS};
-use crate::table::{ENDLESS, Key, waste_at};
+use crate::table::{BoxKey, ENDLESS, waste_at};
 use crate::wastes::{beside, is_live};
 use grid::{Dir, Level, Square};
 use std::alloc::{AllocError, Global};
 
 /// A place of a region: its seat as a bit, or 0 if a box there is not seen, and the places beside it as bits.
 #[derive(Clone, Copy, Default)]
-pub(crate) struct Spot {
+pub(crate) struct PlaceBits {
     pub(crate) seat: u32,
     pub(crate) beside: u64,
 }
@@ -36,13 +36,13 @@ pub(crate) struct Site<'a> {
 
 /// The places of a region, its seats and its pulls.
 #[derive(Drop)]
-pub(crate) struct Ground {
+pub(crate) struct Layout {
     /// The place of each square of the level, as in the table.
     pub(crate) places: Vec<u8>,
     /// The squares with a place other than 0: the seats first, in order.
     pub(crate) listed: Vec<Square>,
     /// By place.
-    pub(crate) spots: Vec<Spot>,
+    pub(crate) spots: Vec<PlaceBits>,
     /// For each seat, in order, the place of its square.
     pub(crate) seats: Vec<u8>,
     /// The pulls of boxes from the first seat, then from the second and so on, then those of boxes that are not seen.
@@ -52,39 +52,43 @@ pub(crate) struct Ground {
 }
 
 /// The places and pulls of a region.
-pub(crate) fn ground_of(alloc: Global, site: &Site<'_>) -> Result<Ground, AllocError> {
-    let mut ground = Ground {
+pub(crate) fn layout_of(alloc: Global, site: &Site<'_>) -> Result<Layout, AllocError> {
+    let mut layout = Layout {
         places: vec![in alloc; 0; site.level.squares()]?,
         listed: Vec::new(alloc),
-        spots: vec![in alloc; Spot::default(); 1]?,
+        spots: vec![in alloc; PlaceBits::default(); 1]?,
         seats: Vec::new(alloc),
         pulls: Vec::new(alloc),
         firsts: Vec::new(alloc),
     };
-    ground.seat_all(site)?;
-    ground.place_components(alloc, site.level)?;
-    let listed = ground.listed.clone()?;
+    layout.seat_all(site)?;
+    layout.place_components(alloc, site.level)?;
+    let listed = layout.listed.clone()?;
     for square in listed.as_slice() {
-        ground.connect(site.level, *square);
+        layout.connect(site.level, *square);
     }
     for square in listed.as_slice() {
-        ground.list_pulls_from(site, *square)?;
+        layout.list_pulls_from(site, *square)?;
     }
-    let unseen = ground.pulls.len();
-    ground.firsts.push(unseen)?;
+    let unseen = layout.pulls.len();
+    layout.firsts.push(unseen)?;
     for square in listed.as_slice() {
-        ground.list_pulls_into_sight(site, *square)?;
+        layout.list_pulls_into_sight(site, *square)?;
     }
-    Ok(ground)
+    Ok(layout)
 }
 
 /// The key of each square of the level, with so many seats in the low half.
-pub(crate) fn keys_of(alloc: Global, ground: &Ground, half: u32) -> Result<Vec<Key>, AllocError> {
-    let mut keys = Vec::with_capacity(alloc, ground.places.len())?;
-    for place in ground.places.as_slice() {
-        let seat = ground.spot(*place as usize).seat;
+pub(crate) fn keys_of(
+    alloc: Global,
+    layout: &Layout,
+    half: u32,
+) -> Result<Vec<BoxKey>, AllocError> {
+    let mut keys = Vec::with_capacity(alloc, layout.places.len())?;
+    for place in layout.places.as_slice() {
+        let seat = layout.spot(*place as usize).seat;
         let half = half % 32;
-        keys.push(Key {
+        keys.push(BoxKey {
             high: seat >> half,
             low: seat & ((1 << half) - 1),
         })?;
@@ -92,13 +96,13 @@ pub(crate) fn keys_of(alloc: Global, ground: &Ground, half: u32) -> Result<Vec<K
     Ok(keys)
 }
 
-impl Ground {
+impl Layout {
     /// The spot of a place.
     #[inline(always)]
-    pub(crate) fn spot(&self, place: usize) -> Spot {
+    pub(crate) fn spot(&self, place: usize) -> PlaceBits {
         match self.spots.get(place) {
             Some(spot) => *spot,
-            None => Spot { seat: 0, beside: 0 },
+            None => PlaceBits { seat: 0, beside: 0 },
         }
     }
 
@@ -148,7 +152,7 @@ impl Ground {
     // Adds a place. Returns its number.
     fn new_place(&mut self, seat: u32) -> Result<u8, AllocError> {
         let place = u8::try_from(self.spots.len()).unwrap_or(u8::MAX);
-        self.spots.push(Spot { seat, beside: 0 })?;
+        self.spots.push(PlaceBits { seat, beside: 0 })?;
         Ok(place)
     }
 

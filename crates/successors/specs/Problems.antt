@@ -4,7 +4,7 @@ use Rattle.grid.specs.Board.{Board, Scene}
 use Rattle.doom.specs.Bounds.{IsLower}
 
 -- what is searched: a level, and the greatest number of pushes of a solution, if one is set
-pub record Task : Type 0 where
+pub record Problem : Type 0 where
   pub board : Board
   pub cap : Option ℕ
 
