@@ -34,7 +34,6 @@ no_set : is_rising (2 ∷ 2 ∷ []) ≡ false
 no_set = refl
 
 marks : marked (false ∷ true ∷ false ∷ true ∷ []) ≡ 1 ∷ 3 ∷ []
-unfolding marked
 marks = refl
 
 -- ---- the grid

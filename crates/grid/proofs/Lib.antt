@@ -6,6 +6,5 @@ pub mod Settle
 pub mod Bits
 pub mod RoomBits
 pub mod Words
-pub mod Kept
 pub mod Columns
 mod Examples

@@ -68,7 +68,7 @@ next board q L = cond ((q % board.cols) == 0) (length board.cells) (q - 1)
 next board q R = cond ((suc q % board.cols) == 0) (length board.cells) (suc q)
 next board q U = cond (nat_lt q board.cols) (length board.cells) (q - board.cols)
 
--- where the boxes stand, and the player: a state of the game, and what contracts see of a position
+-- the squares of the boxes and of the player: a state of the game, and what contracts see of a position
 pub record Scene : Type 0 where
   pub boxes : Squares
   pub player : ℕ
@@ -96,7 +96,7 @@ Pushes board s d t = let q = next board s.player d in let r = next board q d in
     (contains s.boxes q ≡ true) × IsFree board s.boxes r ×
     (t ≡ record { boxes = insert (remove s.boxes q) r; player = q })
 
--- every box stands on a goal
+-- every box is on a goal
 abbrev pub IsSolved : Board → Scene → Type 0
 IsSolved board s = (q : ℕ) → contains s.boxes q ≡ true → is_goal board q ≡ true
 

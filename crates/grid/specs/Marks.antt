@@ -3,5 +3,5 @@ use Rattle.std.specs.Prelude.{Bool, List}
 use Rattle.grid.specs.Squares.{Squares, places_from}
 
 -- the squares that a list of flags marks
-unfoldable pub marked : List Bool → Squares
+abbrev pub marked : List Bool → Squares
 marked flags = places_from (λ b. b) 0 flags

@@ -9,7 +9,7 @@ use Rattle.grid.specs.Rising.{is_rising}
 use Rattle.grid.specs.Board.{Board, IsFree, Pushes, Scene, Walks, box_cell, is_wall}
 use Rattle.grid.specs.Lawful.{box_count}
 
--- a box stands on the square at the start
+-- a box is on the square at the start
 unfoldable pub has_box : Board → ℕ → Bool
 has_box board q = box_cell (slice_index_or board.cells q Wall)
 
@@ -17,7 +17,7 @@ has_box board q = box_cell (slice_index_or board.cells q Wall)
 abbrev pub start_boxes : Board → Squares
 start_boxes board = places_from box_cell 0 board.cells
 
--- a state of the level: boxes and player stand on no wall, the player on no box
+-- a state of the level: no box is on a wall, and the player neither on a wall nor on a box
 pub record IsScene (board : Board) (s : Scene) : Type 0 where
   pub rising : is_rising s.boxes ≡ true
   pub boxes : (q : ℕ) → contains s.boxes q ≡ true → is_wall board q ≡ false

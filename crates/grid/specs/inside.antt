@@ -3,6 +3,5 @@ pub mod Filling
 pub mod AroundView
 pub mod BoardView
 pub mod LevelView
-pub mod BoxesView
 pub mod Counting
 pub mod MaskWords

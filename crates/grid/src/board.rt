@@ -118,7 +118,7 @@ impl Board {
             .map_or(false, |cell| cell.has_goal())
     }
 
-    /// Whether a box stands on the square at the start.
+    /// Whether a box is on the square at the start.
     #[tactic(auto, unfolding(crate::specs::States::has_box))]
     pub(crate) fn has_box(&self, square: Square) -> bool
         ensures { result ≡ has_box self.now square }

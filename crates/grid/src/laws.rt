@@ -49,7 +49,7 @@ pub fn walks_can_be_walked_back()
         → (es : List Dir) × (length es ≡ length ds) × Play board Any t es [] s }
 {}
 
-/// A play ends in a state with as many boxes as it began, and has at most as many pushes as steps.
+/// A play from a state ends in a state with as many boxes, and has at most as many pushes as steps.
 pub fn a_play_keeps_states()
     ensures state { (board : Board) (s t : Scene) (ds : List Dir) (ps : List Push) → IsScene board s →
         Play board Any s ds ps t → IsScene board t }

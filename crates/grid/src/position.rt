@@ -203,7 +203,7 @@ fn first_boxes(level: &Level) -> ArrayVec<Square, MAX_BOXES>
 }
 
 // Whether the square is one of these. The loop has no early end, so that the compiler compares several at once.
-pub(crate) fn is_among(squares: &[Square], square: Square) -> bool
+fn is_among(squares: &[Square], square: Square) -> bool
     ensures { result ≡ contains squares.now square }
 {
     let mut found = false;
@@ -236,7 +236,7 @@ fn rises(squares: &[Square]) -> bool
 }
 
 // Replaces one square by another and keeps the list rising. `place` is a guess at its index.
-pub(crate) fn move_square(squares: &mut [Square], place: usize, from: Square, to: Square)
+fn move_square(squares: &mut [Square], place: usize, from: Square, to: Square)
     requires rising { is_rising squares.old ≡ true }
     requires bound { length squares.old ≤ MAX_SQUARES }
     requires there { contains squares.old from ≡ true }

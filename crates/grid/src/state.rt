@@ -38,6 +38,7 @@ impl Model for State {
 
 impl State {
     /// The state at the start of the level. Fails only if out of memory.
+    #[tactic(auto, unfolding(crate::specs::Board::start))]
     pub fn start(alloc: Global, level: &Level) -> Result<State, AllocError>
         ensures start { IfOk result (λ s. s ≡ start level.now) }
         ensures scene { IfOk result (λ s. IsScene level.now s) }
@@ -51,6 +52,7 @@ impl State {
 
     /// Makes one step in a direction, if the rules allow it: the player moves to a free square, or pushes a box that
     /// has a free square behind it. The state is one of this level. Takes no memory.
+    #[tactic(auto, using(crate::proofs::lemmas::Steps::inside_grid))]
     pub fn step(&mut self, level: &Level, dir: Dir) -> Step
         requires { IsScene level.now self.old }
         ensures steps { Steps level.now self.old dir result self.new }
@@ -74,6 +76,7 @@ impl State {
     }
 
     /// Whether every box is on a goal. The state is one of this level.
+    #[tactic(auto, using(crate::proofs::lemmas::Steps::inside_grid), unfolding(crate::specs::Board::is_goal))]
     pub fn is_solved(&self, level: &Level) -> bool
         requires { IsScene level.now self.now }
         ensures { IsTrue result ↔ IsSolved level.now self.now }
