@@ -1,7 +1,6 @@
 -- What a flood by steps finds: the area.
 use Rattle.std.proofs.Common.{◌≡◌, ◌≢◌, ℕ, zero, suc, ◌<◌, ◌≤◌, true, false, not, cond, ◌&&◌, ◌↔◌, inl, inr, List, get_or, refl}
 use Rattle.std.proofs.Common.{sym, ap, subst, ◌∙◌, arith}
-use Rattle.std.proofs.lemmas.Bool.{cases_Bool, and_parts, and_from, not-true, cond-true, cond-false, true≢false}
 use Rattle.grid.specs.Board.{Board, Scene, IsFree, is_wall}
 use Rattle.grid.specs.Masks.{has_bit}
 use Rattle.grid.specs.Squares.{contains}
@@ -18,19 +17,7 @@ module _ (board : Board) (s : Scene) (from : ℕ) (barred old marks begun : List
     (sp : IsSpread board BOX_MARK from (λ q. get_or marks q 0)) where
   -- the boxes have their mark, and nothing else has
   blocked : (q : ℕ) → (contains s.boxes q ≡ true → get_or marks q 0 ≡ BOX_MARK) × (contains s.boxes q ≡ false → get_or marks q 0 ≢ BOX_MARK)
-  blocked q = (
-    λ h. (let floor = f.scene.boxes q h in
-        (keeps q).0 (bar q ∙ cond-true (has_bit barred q && not (is_wall board q)) BOX_MARK 0
-        (and_from (has_bit barred q) (not (is_wall board q)) (f.boxes q floor ∙ h) (ap not floor)))),
-    λ none e. elim (cases_Bool (has_bit barred q && not (is_wall board q))) [
-      | inl both ↦
-          (let p = and_parts (has_bit barred q) (not (is_wall board q)) both in
-          true≢false (sym p.0 ∙ (f.boxes q (not-true (is_wall board q) p.1) ∙ none)))
-      | inr clear ↦
-          absurd (let was = (keeps q).1 e in let zero = bar q ∙ cond-false (has_bit barred q && not (is_wall board q)) BOX_MARK 0 clear in
-          omega (arith, was, zero))
-    ],
-  )
+  blocked q = grind arith
 
   -- a square with a greater mark is of the area
   marked_area : (most q : ℕ) → get_or marks q 0 ≤ most → BOX_MARK < get_or marks q 0 → Area board s q

@@ -16,11 +16,7 @@ use Rattle.area.proofs.lemmas.WordBits.{bit_at-mod, word_bit-not, word_bit_insid
 carry_bit : (free add carry : ℕ) (test : ℕ → Bool) → carry ≤ 1 → ((i : ℕ) → bit_at free (suc i) ≡ 1 → test i ≡ true → test (suc i) ≡ true) →
     ((i : ℕ) → bit_at add i ≡ 1 → test i ≡ true) → (carry ≡ 1 → bit_at free 0 ≡ 1 → test 0 ≡ true)
     → (j : ℕ) → bit_at free j ≡ 1 → bit_at (free + add + carry) j ≡ 0 → test j ≡ true
-carry_bit free add carry test small passes starts begins zero here gone = elim (cases_eq carry 1) [
-  | inl one ↦ begins one here
-  | inr none ↦ starts 0 (let f = bit_at_lowest free in let a = bit_at_lowest add in let s = bit_at_lowest (free + add + carry) in
-      omega (arith, f, a, s, here, gone, none, small))
-]
+carry_bit free add carry test small passes starts begins zero here gone = grind arith
 carry_bit free add carry test small passes starts begins (suc j) here gone =
     carry_bit (free / 2) (add / 2) ((free % 2 + add % 2 + carry) / 2) (λ i. test (suc i)) (omega (arith, small))
     (λ i bit old. passes (suc i) (bit_at-suc free (suc i) ∙ bit) old)

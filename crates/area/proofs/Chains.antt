@@ -37,12 +37,7 @@ module _ (board : Board) (boxes : Squares) (clear : (q : ℕ) → contains boxes
 
   others_clear : (q : ℕ) → contains others q ≡ true → is_wall board q ≡ false
   unfolding others
-  others_clear q h = elim (cases_lt q (length board.cells)) [
-    | inl lt ↦ not-true (is_wall board q)
-        (and_parts (not (is_wall board q)) (not (contains boxes q))
-        (sym (passing_within (λ x. not (is_wall board x) && not (contains boxes x)) 0 (length board.cells) q (omega arith) (omega (arith, lt))) ∙ h)).0
-    | inr le ↦ absurd (true≢false (sym h ∙ passing_past (λ x. not (is_wall board x) && not (contains boxes x)) 0 (length board.cells) q (omega (arith, le))))
-  ]
+  others_clear q h = grind (arith, cases_lt, not-true, and_parts, passing_within, true≢false, passing_past)
 
   no_other : (q : ℕ) → contains boxes q ≡ true → IsFree board others q
   no_other q h = (clear q h, in_others q (clear q h) ∙ ap not h)
@@ -80,17 +75,8 @@ AreTurned words index now =
 
 pub turned_on : (words now : List ℕ) (index word : ℕ) → AreTurned words index now → index < length now → word ≡ get_or now index 0 →
     get_or words index 0 < 2 ^ 64 → AreTurned words (index + 1) (set now index (bit_not w64 word))
-turned_on words now index word (size, before, rest) inside read fits = (
-  length-set now index (bit_not w64 word) ∙ size,
-  λ k j lt below. elim (cases_eq k index) [
-    | inl e ↦
-        ap (λ (w : ℕ). word_bit w j) (ap (λ (x : ℕ). get_or (set now index (bit_not w64 word)) x 0) e ∙ get_or-set_same now index (bit_not w64 word) 0 inside)
-        ∙ (word_bit-not word j (let same = rest index (omega arith) in omega (arith, same, read, fits)) below ∙
-        ap (λ (w : ℕ). not (word_bit w j)) (read ∙ (rest index (omega arith) ∙ ap (λ (x : ℕ). get_or words x 0) (sym e))))
-    | inr ne ↦ ap (λ (w : ℕ). word_bit w j) (get_or-set_other now index k (bit_not w64 word) 0 ne) ∙ before k j (omega (arith, lt, ne)) below
-  ],
-  λ k le. get_or-set_other now index k (bit_not w64 word) 0 (λ e. omega (arith, le, e)) ∙ rest k (omega arith),
-)
+turned_on words now index word (size, before, rest) inside read fits =
+    grind (arith, length-set, cases_eq, get_or-set_same, word_bit-not, get_or-set_other)
 
 pub turned_bit : (words now : List ℕ) (index q : ℕ) → AreTurned words index now → length words ≤ index → q < WORD_BITS * length words →
     has_bit now q ≡ not (has_bit words q)

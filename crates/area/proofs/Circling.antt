@@ -138,11 +138,7 @@ module _ (board : Board) (level : IsLevel board) (q : ℕ) (room : InRoom board 
             (up_to board (next board q R) _ (omega (arith, a, b)))
 
     pub ring_around : IsAround board set q ring
-    ring_around = record {
-      middle = named _ q q (rows.beside q 1 (omega arith) (omega arith)) refl;
-      sides = ring_sides;
-      corners = ring_corners;
-    }
+    ring_around = grind (arith, named, ring_sides, ring_corners)
 
 -- ---- what is joined
 
@@ -158,9 +154,7 @@ pub corner_behind : (board : Board) (set : Squares) (ring : Ring) (q : ℕ) (d e
     → next board q d < length board.cells
     → IsAround board set (next board q d) ring → IsAcross d e
     → corner_bit ring (opposite d) e ≡ contains set (next board q e)
-corner_behind board set ring q d e inside ahead_inside around side =
-    around.corners (opposite d) e (across_behind d e side) ∙
-    ap (λ (x : ℕ). contains set (next board x e)) (next_back_inside board q d inside ahead_inside)
+corner_behind board set ring q d e inside ahead_inside around side = grind (arith, across_behind, next_back_inside)
 
 -- a box comes from the square `q` to the next in the direction `d`, which has the ring
 module _ (board : Board) (set : Squares) (columns : 1 ≤ board.cols) (within : (x : ℕ) → contains set x ≡ true →
@@ -175,21 +169,11 @@ module _ (board : Board) (set : Squares) (columns : 1 ≤ board.cols) (within : 
 
   past_by : (e : Dir) (flank : Flank) → IsAcross d e → IsFlankOf ring d e flank → goes_past flank ≡ true
       → GoesPast board set q c d e
-  past_by e flank side of h =
-      let both = and_parts _ _ h in
-      let two = and_parts _ _ both.0 in
-      record {
-        first = sym (behind e side) ∙ (sym of.at_corner ∙ two.0);
-        beside = sym (around.sides e) ∙ (sym of.at_side ∙ two.1);
-        third = sym (around.corners e d (across_each d e side)) ∙ (sym of.at_front ∙ both.1);
-      }
+  past_by e flank side of h = grind (arith, and_parts, behind, across_each)
 
   kept_by : (e : Dir) (flank : Flank) → IsAcross d e → IsFlankOf ring d e flank → keeps_side flank ≡ true →
       (contains set (next board q e) ≡ true) ⊎ (contains set (next board c e) ≡ false)
-  kept_by e flank side of h = elim (or_cases _ _ h) [
-    | inl first ↦ inl (sym (behind e side) ∙ (sym of.at_corner ∙ first))
-    | inr none ↦ inr (sym (around.sides e) ∙ (sym of.at_side ∙ not-true _ none))
-  ]
+  kept_by e flank side of h = grind (arith, or_cases, behind, not-true)
 
   -- the corner in front of the other flank ends a way round
   front_by : (e : Dir) (flank : Flank) → IsAcross d e → IsFlankOf ring d e flank → flank.front ≡ true
@@ -224,27 +208,10 @@ module _ (board : Board) (set : Squares) (columns : 1 ≤ board.cols) (within : 
     beyond_by : ((not view.beyond || goes_past view.one) || goes_past view.other) ≡ true →
         (contains set (next board c d) ≡ false) ⊎ (GoesPast board set q c d (across d) ⊎ GoesPast board set q c d
         (opposite (across d)))
-    beyond_by h = elim (or_cases _ _ h) [
-      | inr second ↦ inr (inl (past_by (across d) view.other (inl refl) turned.to_other second))
-      | inl rest ↦ elim (or_cases _ _ rest) [
-        | inl none ↦ inl (sym beyond_is ∙ not-true _ none)
-        | inr first ↦ inr (inr (past_by (opposite (across d)) view.one (inr refl) turned.to_one first))
-      ]
-    ]
+    beyond_by h = grind (arith, or_cases, past_by, beyond_is, not-true)
 
     by_each : keeps_each view ≡ true → (x : Dir) → IsJoined board set c q x
-    by_each h =
-        let both = and_parts _ _ h in
-        let two = and_parts _ _ both.0 in
-        sides_all_joined board set columns within q c d (across d) inside refl ahead_inside (inl refl)
-        (kept_by (across d) view.other (inl refl) turned.to_other two.1)
-        (kept_by (opposite (across d)) view.one (inr refl) turned.to_one two.0) (beyond_by both.1)
+    by_each h = grind (arith, and_parts, sides_all_joined, kept_by, beyond_by)
 
     pub view_joins : joins view ≡ true → StaysJoined board set c q
-    view_joins h there = elim (or_cases _ _ h) [
-      | inr none ↦ absurd (true≢false (sym there ∙ (sym around.middle ∙ (sym turned.to_middle ∙ not-true _ none))))
-      | inl ways ↦ elim (or_cases _ _ ways) [
-        | inl round ↦ by_round round
-        | inr each ↦ by_each each
-      ]
-    ]
+    view_joins h there = grind (arith, or_cases, true≢false, not-true, by_round, by_each)

@@ -11,7 +11,7 @@ use Rattle.grid.specs.Board.{Board, Scene, IsFree, next, opposite, dir_number, d
 use Rattle.grid.specs.States.{IsScene}
 use Rattle.grid.specs.Squares.{Squares, contains}
 use Rattle.grid.specs.Plays.{Play, Any, stay, walk, shortlex}
-use Rattle.grid.proofs.lemmas.Steps.{inside_grid, next_back_to, walk_player, walk_boxes, walk_to, scene_after_walk}
+use Rattle.grid.proofs.lemmas.Steps.{next_back_to, walk_player, walk_boxes, walk_to, scene_after_walk}
 use Rattle.grid.proofs.lemmas.Orders.{nat_cmp-less, shortlex-shorter, shortlex-even, not_gt_since_less, not_gt_itself}
 use Rattle.grid.proofs.lemmas.Orders.{dir_cmp_total, shortlex_total, shortlex-append_not_gt, shortlex-none, then-less}
 use Rattle.area.specs.LeastWalks.{IsLeastWalk, walk_letters, IsWalk}
@@ -30,16 +30,9 @@ walk_letters-more [] d = refl
 walk_letters-more (e ∷ ds) d = ap (λ (xs : List Letter). record { dir = e; push = false } ∷ xs) (walk_letters-more ds d)
 
 module _ (board : Board) (base to : ℕ) (mark : ℕ → ℕ) (sp : IsSpread board base to mark) where
-  -- a reached square is a square of the grid
-  pub reached_inside : (q : ℕ) → base < mark q → q < length board.cells
-  reached_inside q lt = inside_grid board q (sp.free q lt)
-
   -- a reached square that is not where the search began was reached by a step
   pub reached_later : (q : ℕ) → base < mark q → q ≢ to → suc base < mark q
-  reached_later q lt ne = elim (sp.came q lt) [
-    | inl e ↦ absurd (ne e)
-    | inr h ↦ (let b : base < mark h.0 = h.2 in let s : mark q ≡ suc (mark h.0) = h.4 in omega arith)
-  ]
+  reached_later q lt ne = grind arith
 
   -- from such a square some direction goes down
   pub goes_down : (q : ℕ) → base < mark q → q ≢ to → (d : Dir) × IsDown board mark q d
@@ -51,19 +44,6 @@ module _ (board : Board) (base to : ℕ) (mark : ℕ → ℕ) (sp : IsSpread boa
         let s : mark q ≡ suc (mark h.0) = h.4 in
         (opposite h.1, ap (λ x. suc (mark x)) back ∙ sym s))
   ]
-
-  -- the square that a step down leads to is reached
-  pub down_reached : (q : ℕ) (d : Dir) → suc base < mark q → IsDown board mark q d → base < mark (next board q d)
-  down_reached q d lt down = omega (arith, down)
-
--- before the first step
-pub descending_first : (board : Board) (base to : ℕ) (mark : ℕ → ℕ) (first : ℕ) (before : List Letter) →
-    IsDescending board base to mark first first before before
-descending_first board base to mark first before = record {
-  ds = [];
-  letters = sym (append-nil before);
-  rest = λ es h. h;
-}
 
 -- one step more
 pub descending_more : (board : Board) (base to : ℕ) (mark : ℕ → ℕ) (first q : ℕ) (before now : List Letter) (d : Dir) →
@@ -106,22 +86,14 @@ module _ (board : Board) (boxes : Squares) (base to : ℕ) (mark : ℕ → ℕ) 
   -- a descent has as many steps as its first square's mark says
   pub descent_length : {q : ℕ} {ds : List Dir} → IsDescent board base to mark q ds → mark q ≡ suc base + length ds
   descent_length arrived = let e : mark to ≡ suc base = sp.start in omega arith
-  descent_length (onward {q = q} {d = d} {ds = ds} lt down rest) =
-      let r = descent_length rest in
-      let e : suc (mark (next board q d)) ≡ mark q = down.0 in
-      omega (arith, r, e)
+  descent_length (onward {q = q} {d = d} {ds = ds} lt down rest) = grind (arith, descent_length rest)
 
   -- no walk comes before a descent
   pub descent_least : {s t : Scene} {q : ℕ} {ds es : List Dir} → IsDescent board base to mark q ds → s.boxes ≡ boxes
       → s.player ≡ q → t.player ≡ to
       → IsScene board s → Play board Any s es [] t → is_gt (shortlex dir_cmp ds es) ≡ false
   descent_least {es = es} arrived same at end scene p = shortlex-none dir_cmp es
-  descent_least {s = s} (onward {q = q} {d = d} {ds = ds} lt down rest) same at end scene (stay o) =
-      let l = descent_length rest in
-      let e : suc (mark (next board q d)) ≡ mark q = down.0 in
-      let f : mark to ≡ suc base = sp.start in
-      let g : mark q ≡ mark to = ap mark (sym at ∙ end) in
-      absurd (omega (arith, l))
+  descent_least {s = s} (onward {q = q} {d = d} {ds = ds} lt down rest) same at end scene (stay o) = grind arith
   descent_least {s = s} {t = t} (onward {q = q} {d = d} {ds = ds} lt down rest) same at end scene
       (walk {m = m} {d = e} {ds = es} o h p) =
       let there : m.player ≡ next board s.player e = walk_player board s e m h in

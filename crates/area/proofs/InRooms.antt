@@ -1,6 +1,6 @@
 -- What a flood over the free squares of the player's room finds.
 use Rattle.std.proofs.Common.{◌≡◌, ℕ, ◌<◌, Bool, true, false, not, eqb, ◌&&◌, ◌||◌, ◌↔◌, List, length, inl, inr, refl, sym, subst, ◌∙◌, arith}
-use Rattle.std.proofs.lemmas.Bool.{and_parts, and_from, not-true, not_from_false, or_cases, or_right, eqb-true, eq-eqb}
+use Rattle.std.proofs.lemmas.Bool.{or_cases, or_right, eqb-true, eq-eqb}
 use Rattle.grid.specs.declared.dir.Dir.{Dir}
 use Rattle.grid.specs.declared.dir.Dir.TheVariants.{D, L, R, U}
 use Rattle.grid.specs.Board.{Board, Scene, IsFree, next, opposite}
@@ -21,10 +21,7 @@ use Rattle.area.proofs.lemmas.Norms.{area_here}
 -- the free squares are those of the room's mask that are not barred
 pub are_free : (board : Board) (barred room free : List ℕ) → IsRoomMask board room → ((q : ℕ) → has_bit free q ≡ (has_bit room q && not (has_bit barred q))) →
     AreFree board barred free
-are_free board barred room free mask bits q = (
-  λ h. (let p = and_parts (has_bit room q) (not (has_bit barred q)) (sym (bits q) ∙ h) in ((mask.bits q).0 p.0, not-true (has_bit barred q) p.1)),
-  λ w. bits q ∙ and_from (has_bit room q) (not (has_bit barred q)) ((mask.bits q).1 w.0) (not_from_false (has_bit barred q) w.1),
-)
+are_free board barred room free mask bits q = grind arith
 
 module _ (board : Board) (q : ℕ) where
   -- the next square has a number beside this one

@@ -2,7 +2,7 @@
 use Rattle.std.proofs.Common.{◌≡◌, ℕ, zero, suc, ◌+◌, ◌<◌, ◌≤◌, Bool, true, false, not, cond, eqb, ◌&&◌, ◌||◌, ◌⊎◌, ◌↔◌}
 use Rattle.std.proofs.Common.{inl, inr, List, [], ◌∷◌, ◌++◌, length, refl, sym, ap, subst, ◌∙◌, arith}
 use Rattle.std.proofs.lemmas.Bool.{cases_lt, cases_Bool, eqb-true, eq-eqb, and_parts, and_from, or_cases, or_left}
-use Rattle.std.proofs.lemmas.Bool.{or_right, not-true, true≢false, false≢true}
+use Rattle.std.proofs.lemmas.Bool.{or_right, true≢false, false≢true}
 use Rattle.grid.specs.declared.dir.Dir.{Dir}
 use Rattle.grid.specs.declared.dir.Dir.TheVariants.{D, L, R, U}
 use Rattle.grid.specs.Board.{Board, Scene, IsFree, Walks, is_wall, next, opposite}
@@ -58,16 +58,7 @@ same_or_more : (p q : ℕ → Bool) (n : ℕ) → ((x : ℕ) → p x ≡ true �
     → ((x : ℕ) → x < n → p x ≡ q x) ⊎ (tally p n < tally q n)
 unfolding tally
 same_or_more p q zero le = inl (λ x lt. absurd (omega arith))
-same_or_more p q (suc n) le = elim (same_or_more p q n le) [
-  | inr more ↦ inr (tally_grows (p n) (q n) (tally p n) (tally q n) (le n) more)
-  | inl same ↦ elim (tally_new (p n) (q n) (tally p n) (tally q n) (le n) (tally_le p q n le)) [
-    | inr more ↦ inr more
-    | inl here ↦ inl (λ x lt. elim (cases_lt x n) [
-      | inl below ↦ same x below
-      | inr above ↦ (let e : n ≡ x = omega arith in subst (λ (y : ℕ). p y ≡ q y) e here)
-    ])
-  ]
-]
+same_or_more p q (suc n) le = grind (arith, same_or_more p q n le, tally_grows, tally, tally_new, tally_le, cases_lt)
 
 -- the first number below n that passes a test
 first_or_none : (test : ℕ → Bool) (n : ℕ)
@@ -106,9 +97,7 @@ is_free board boxes q = not (is_wall board q) && not (contains boxes q)
 
 is_free-true : (board : Board) (boxes : Squares) (q : ℕ) → is_free board boxes q ≡ true → IsFree board boxes q
 unfolding is_free
-is_free-true board boxes q h =
-    let p = and_parts (not (is_wall board q)) (not (contains boxes q)) h in
-    (not-true (is_wall board q) p.0, not-true (contains boxes q) p.1)
+is_free-true board boxes q h = grind arith
 
 free_is : (board : Board) (boxes : Squares) (q : ℕ) → IsFree board boxes q → is_free board boxes q ≡ true
 unfolding is_free
@@ -121,16 +110,7 @@ beside board test q =
 beside_some : (board : Board) (test : ℕ → Bool) (q : ℕ) → beside board test q ≡ true
     → (d : Dir) × (test (next board q d) ≡ true)
 unfolding beside
-beside_some board test q h = elim (or_cases (test (next board q D)) _ h) [
-  | inl d ↦ (D, d)
-  | inr h1 ↦ elim (or_cases (test (next board q L)) _ h1) [
-    | inl l ↦ (L, l)
-    | inr h2 ↦ elim (or_cases (test (next board q R)) _ h2) [
-      | inl r ↦ (R, r)
-      | inr u ↦ (U, u)
-    ]
-  ]
-]
+beside_some board test q h = grind arith
 
 beside_at : (board : Board) (test : ℕ → Bool) (q : ℕ) (d : Dir) → test (next board q d) ≡ true
     → beside board test q ≡ true
@@ -197,10 +177,7 @@ near_step : (board : Board) (boxes : Squares) (from k q : ℕ) (d : Dir) → IsF
     → near board boxes from k (next board q d) ≡ true
     → near board boxes from (suc k) q ≡ true
 unfolding near
-near_step board boxes from k q d free h =
-    or_right (near board boxes from k q) _
-    (and_from (is_free board boxes q) _ (free_is board boxes q free)
-    (beside_at board (near board boxes from k) q d h))
+near_step board boxes from k q d free h = grind (arith, or_right, near, and_from, is_free, free_is, beside_at)
 
 -- where a walk leads from a near square is near, with its steps more
 near_along : (board : Board) (boxes : Squares) (from k : ℕ) {s t : Scene} {ds : List Dir} → s.boxes ≡ boxes
@@ -244,10 +221,7 @@ near_up board boxes from (suc j) k q h =
 
 near_inside : (board : Board) (boxes : Squares) (from k q : ℕ) → IsFree board boxes from → length board.cells ≤ q
     → near board boxes from k q ≡ false
-near_inside board boxes from k q free out = elim (cases_Bool (near board boxes from k q)) [
-  | inl holds ↦ absurd (true≢false (sym (wall_outside board q out) ∙ (near_free board boxes from k q free holds).0))
-  | inr fails ↦ fails
-]
+near_inside board boxes from k q free out = grind (arith, cases_Bool, near, true≢false, wall_outside, near_free)
 
 stable_from : (board : Board) (boxes : Squares) (from : ℕ) → IsFree board boxes from → (fuel k : ℕ) →
     length board.cells < tally (near board boxes from k) (length board.cells) + fuel → (j : ℕ) ×

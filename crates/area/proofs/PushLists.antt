@@ -1,6 +1,6 @@
 -- How the list of the pushes that a flood allows grows, square by square and direction by direction.
-use Rattle.std.proofs.Common.{◌≡◌, ℕ, suc, ◌+◌, ◌<◌, ◌≤◌, true, eqb, List, [], ◌∷◌, ◌++◌, length, inl, inr, refl, sym, ap, subst, ◌∙◌, arith}
-use Rattle.std.proofs.lemmas.Bool.{cases_lt, or_cases, eqb-true, false≢true}
+use Rattle.std.proofs.Common.{◌≡◌, ℕ, suc, ◌+◌, ◌<◌, ◌≤◌, true, List, [], ◌∷◌, ◌++◌, length, inl, inr, refl, sym, ap, subst, ◌∙◌, arith}
+use Rattle.std.proofs.lemmas.Bool.{cases_lt, false≢true}
 use Rattle.std.specs.declared.cmp.Ordering.{Ordering}
 use Rattle.std.specs.declared.cmp.Ordering.TheVariants.{Less}
 use Rattle.std.specs.Ordering.{ordering_then}
@@ -11,14 +11,14 @@ use Rattle.grid.specs.Squares.{Squares, contains}
 use Rattle.grid.specs.Board.{Board, Scene, IsFree, next, opposite, dir_number, dir_cmp, push_cmp}
 use Rattle.grid.specs.States.{IsScene}
 use Rattle.area.specs.Reach.{Reach}
-use Rattle.grid.proofs.lemmas.Orders.{nat_cmp-less, nat_cmp-same}
+use Rattle.grid.proofs.lemmas.Orders.{nat_cmp-less}
 use Rattle.grid.proofs.lemmas.Squares.{contains-from, rises_from-parts, rises_from-cons}
 use Rattle.grid.proofs.lemmas.Steps.{inside_grid}
 use Rattle.area.specs.After.{IsAreaOf}
 use Rattle.area.specs.Pushes.{ArePushes}
 use Rattle.area.specs.inside.PushLists.{AllowsPush, IsBefore, AreAllowedBefore, IsListing}
-use Rattle.grid.proofs.lemmas.Directions.{dir_same, dir_number-lt}
-use Rattle.area.proofs.lemmas.PushOrder.{all_none, all_same, all_push}
+use Rattle.grid.proofs.lemmas.Directions.{dir_same}
+use Rattle.area.proofs.lemmas.PushOrder.{all_same, all_push}
 
 -- ---- the pushes of one box
 
@@ -26,44 +26,19 @@ use Rattle.area.proofs.lemmas.PushOrder.{all_none, all_same, all_push}
 less_since_before : (p q : Push) → IsBefore q.square (dir_number q.dir) p → push_cmp p q ≡ Less
 less_since_before p q (inl lt) =
     ap (λ (o : Ordering). ordering_then o (dir_cmp p.dir q.dir)) (nat_cmp-less p.square q.square lt)
-less_since_before p q (inr (same, lt)) =
-    ap (λ (o : Ordering). ordering_then o (dir_cmp p.dir q.dir)) (nat_cmp-same p.square q.square same) ∙
-    nat_cmp-less (dir_number p.dir) (dir_number q.dir) lt
+less_since_before p q (inr (same, lt)) = grind arith
 
 module _ (board : Board) (reach : Reach) (square : ℕ) where
   -- past the last direction
   pub past_last : (ps : List Push) → AreAllowedBefore board reach square 4 ps
       → AreAllowedBefore board reach (square + 1) 0 ps
-  past_last ps all = all_same _ _ ps all
-      (λ p h. (h.0, elim h.1 [ inl lt ↦ inl (omega (arith, lt)) | inr e ↦ inl (omega (arith, e.0)) ]))
-      (λ p h. (
-        h.0,
-        elim h.1 [
-          | inl less ↦
-              elim (cases_lt p.square square) [
-                | inl lt ↦ inl lt
-                | inr le ↦
-                    inr (omega (arith, less, le), dir_number-lt p.dir)
-              ]
-          | inr e ↦
-              absurd (omega (arith, e.1))
-        ],
-      ))
+  past_last ps all = grind arith
 
   -- past squares of which nothing is allowed
   past_none : (ps : List Push) (to : ℕ) → square ≤ to
       → ((p : Push) → AllowsPush board reach p → square ≤ p.square → p.square < to → ⊥)
       → AreAllowedBefore board reach square 0 ps → AreAllowedBefore board reach to 0 ps
-  past_none ps to le none all = all_same _ _ ps all
-      (λ p h. (h.0, elim h.1 [ inl lt ↦ inl (omega (arith, lt, le)) | inr e ↦ absurd (omega (arith, e.1)) ]))
-      (λ p h. (
-        h.0,
-        elim h.1 [
-          | inl less ↦ elim (cases_lt p.square square) [ inl lt ↦ inl lt | inr ge ↦ absurd (none p h.0 ge less) ]
-          | inr e ↦
-              absurd (omega (arith, e.1))
-        ],
-      ))
+  past_none ps to le none all = grind arith
 
   -- the push in the next direction can be made
   pub before_more : (ps : List Push) (seen : ℕ) (d : Dir) → dir_number d ≡ seen
@@ -90,25 +65,9 @@ module _ (board : Board) (reach : Reach) (square : ℕ) where
   pub before_same : (ps : List Push) (seen : ℕ) (d : Dir) → dir_number d ≡ seen
       → AreAllowedBefore board reach square seen ps
       → ¬ (AllowsPush board reach (record { square = square; dir = d })) → AreAllowedBefore board reach square (seen + 1) ps
-  before_same ps seen d at all cannot = all_same _ _ ps all
-      (λ p h. (h.0, elim h.1 [ inl lt ↦ inl lt | inr e ↦ inr (e.0, omega (arith, e.1)) ]))
-      (λ p h. (
-        h.0,
-        elim h.1 [
-          | inl lt ↦ inl lt
-          | inr e ↦ elim (cases_lt (dir_number p.dir) seen) [
-            | inl lt ↦ inr (e.0, lt)
-            | inr le ↦ absurd (let f = dir_same p.dir d (omega (arith, e.1, le, at)) in
-                cannot (subst (AllowsPush board reach) (λ i. record { square = e.0 i; dir = f i }) h.0))
-          ]
-        ],
-      ))
+  before_same ps seen d at all cannot = grind arith
 
 -- ---- the pushes of the boxes
-
--- before the first square
-none_before : (board : Board) (reach : Reach) → AreAllowedBefore board reach 0 0 []
-none_before board reach = all_none _ (λ p h. elim h.1 [ inl lt ↦ omega (arith, lt) | inr e ↦ omega (arith, e.1) ])
 
 -- a flood of a position allows the pushes that the position does
 all_allowed : (board : Board) (n : Scene) (reach : Reach) (end : ℕ) (ps : List Push) → IsScene board n
@@ -133,13 +92,7 @@ all_allowed board n reach end ps scene same area long all = all_same _ _ ps all
 -- before the first box
 pub listing_first : (board : Board) (reach : Reach) (boxes : Squares) (ps : List Push) → is_rising boxes ≡ true → reach.boxes ≡ boxes → ps ≡ [] →
     IsListing board reach boxes 0 ps
-listing_first board reach boxes ps rising same none = record {
-  seen = 0;
-  listed = subst (AreAllowedBefore board reach 0 0) (sym none) (none_before board reach);
-  bound = omega (arith, ap length none);
-  rising = rising;
-  rest = λ q le h. sym (ap (λ (b : Squares). contains b q) same) ∙ h;
-}
+listing_first board reach boxes ps rising same none = grind arith
 
 module _ (board : Board) (reach : Reach) (x : ℕ) (left others : Squares) (before : ℕ) (ps : List Push) (split : left ≡ x ∷ others)
     (now : IsListing board reach left before ps) where
@@ -148,24 +101,11 @@ module _ (board : Board) (reach : Reach) (x : ℕ) (left others : Squares) (befo
 
   -- the pushes of all boxes before the next one are listed
   pub listing_here : AreAllowedBefore board reach x 0 ps
-  listing_here = past_none board reach now.seen ps x parts.0
-      (λ p can ge lt. (let le = contains-from x (x ∷ others) p.square (rises_from-cons x x others (omega arith) parts.1)
-      (ap (λ (b : Squares). contains b p.square) (sym split) ∙ now.rest p.square ge can.there) in
-      omega (arith, le, lt))) now.listed
+  listing_here = grind (arith, past_none, parts, contains-from, rises_from-cons)
 
   -- with those of the next one
   pub listing_next : (qs : List Push) → AreAllowedBefore board reach (x + 1) 0 qs → length qs ≤ length ps + 4 → IsListing board reach others (before + 1) qs
-  listing_next qs more longer = record {
-    seen = x + 1;
-    listed = more;
-    bound = (let bound = now.bound in omega (arith, bound, longer));
-    rising = subst (λ (k : ℕ). rises_from k others ≡ true) (let e : suc x ≡ x + 1 = omega arith in e) parts.1;
-    rest = λ q ge h. (let le = parts.0 in
-        elim (or_cases (eqb x q) (contains others q) (ap (λ (b : Squares). contains b q) (sym split) ∙ now.rest q (omega (arith, le, ge)) h)) [
-          | inl e ↦ absurd (let same = eqb-true x q e in omega (arith, same, ge))
-          | inr there ↦ there
-        ]);
-  }
+  listing_next qs more longer = grind arith
 
 -- after the last box the list has all pushes of the position
 pub listing_last : (board : Board) (n : Scene) (reach : Reach) (left : Squares) (before : ℕ) (ps : List Push) → IsScene board n → reach.boxes ≡ n.boxes →

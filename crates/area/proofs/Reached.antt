@@ -1,6 +1,5 @@
 -- What a search that has spread tells about walks.
-use Rattle.std.proofs.Common.{◌≡◌, ◌≢◌, ℕ, suc, ◌+◌, ◌<◌, ◌≤◌, true, false, inl, inr, List, [], length, sym, ap, subst, ◌∙◌, arith}
-use Rattle.std.proofs.lemmas.Bool.{cases_Bool}
+use Rattle.std.proofs.Common.{◌≡◌, ◌≢◌, ℕ, suc, ◌+◌, ◌<◌, ◌≤◌, true, false, List, [], length, sym, subst, ◌∙◌, arith}
 use Rattle.grid.specs.declared.dir.Dir.{Dir}
 use Rattle.grid.specs.Board.{Board, Scene, IsFree, next}
 use Rattle.grid.specs.States.{IsScene}
@@ -38,24 +37,12 @@ module _ (board : Board) (boxes : Squares) (base from : ℕ) (mark : ℕ → ℕ
 
   -- a reached square has no box
   pub reached_free : (q : ℕ) → base < mark q → IsFree board boxes q
-  reached_free q lt = (
-    sp.free q lt,
-    elim (cases_Bool (contains boxes q)) [
-      | inl e ↦ absurd (let f : mark q ≡ base = (bl q).0 e in omega arith)
-      | inr e ↦ e
-    ],
-  )
+  reached_free q lt = grind arith
 
   -- whence a walk leads to the start of the search is reached, with no more steps than the walk has
   pub walk_home : {s t : Scene} {ds : List Dir} → s.boxes ≡ boxes → t.player ≡ from → IsScene board s → Play board Any s ds [] t → (base < mark s.player) ×
       (mark s.player ≤ suc base + length ds)
-  walk_home {s = s} {t = t} {ds = ds} same at scene p =
-      let r = walk_backwards scene p in
-      let e : mark t.player ≡ suc base = ap mark at ∙ sp.start in
-      let g = reached_along (walk_keeps_boxes p ∙ same) (omega arith) r.2 in
-      let l : length r.0 ≡ length ds = r.1 in
-      let u : mark s.player ≤ mark t.player + length r.0 = g.1 in
-      (g.0, omega arith)
+  walk_home {s = s} {t = t} {ds = ds} same at scene p = grind (arith, walk_backwards, reached_along, walk_keeps_boxes)
 
 -- where a walk leads is free
 pub walk_free : (board : Board) (s : Scene) (ds : List Dir) (q : ℕ) → IsScene board s → IsWalk board s ds q → IsFree board s.boxes q

@@ -1,5 +1,5 @@
 -- The squares round one: which of them are the same, and how one comes round by them.
-use Rattle.std.proofs.Common.{◌≡◌, ◌≢◌, ℕ, suc, ◌+◌, ◌-◌, ◌%◌, ◌<◌, ◌≤◌, Bool, true, false, ◌⊎◌, eqb, cond}
+use Rattle.std.proofs.Common.{◌≡◌, ◌≢◌, ℕ, suc, ◌+◌, ◌%◌, ◌<◌, ◌≤◌, Bool, true, false, ◌⊎◌, eqb, cond}
 use Rattle.std.proofs.Common.{length, inl, inr, refl, sym, ap, subst, ◌∙◌, arith}
 use Rattle.std.proofs.Math.Nat.{add-mod_right}
 use Rattle.std.proofs.lemmas.Bool.{eqb-false, lt-ltb, le-ltb, true≢false}
@@ -8,7 +8,7 @@ use Rattle.grid.specs.declared.dir.Dir.TheVariants.{D, L, R, U}
 use Rattle.grid.specs.Squares.{Squares, contains}
 use Rattle.grid.specs.Board.{Board, next, opposite}
 use Rattle.grid.proofs.lemmas.Steps.{next_back_inside, opposite_twice}
-use Rattle.grid.proofs.lemmas.Directions.{next_below, next_above, not_first}
+use Rattle.grid.proofs.lemmas.Directions.{next_below, next_above}
 use Rattle.area.specs.inside.Detours.{across, IsAcross, Skirts, IsJoined, GoesPast, GoesRound}
 use Rattle.area.specs.inside.Detours.Skirts.{here}
 use Rattle.area.proofs.Detours.{all_round, skirt_on}
@@ -53,9 +53,7 @@ left_over n a false lt = (refl, refl)
 module _ (board : Board) (q : ℕ) where
   pub left_is : next board q L < length board.cells → (eqb (q % board.cols) 0 ≡ false) × (suc (next board q L) ≡ q)
   unfolding next
-  left_is lt =
-      let f = left_over (length board.cells) (q - 1) (eqb (q % board.cols) 0) lt in
-      (f.0, ap suc f.1 ∙ not_first board.cols q f.0)
+  left_is lt = grind arith
 
   pub right_is : next board q R < length board.cells → (eqb (suc q % board.cols) 0 ≡ false) × (next board q R ≡ suc q)
   unfolding next

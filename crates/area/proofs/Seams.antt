@@ -11,11 +11,7 @@ written new rest len e = ap (λ (n : ℕ). take n (new ++ rest)) e ∙ take-appe
 -- so is the item read at an index
 pub read_written : (new rest : List ℕ) (len index at item : ℕ) → len ≡ length new → index < len → item ≡ get_or (take len (new ++ rest)) index item →
     index ≡ at → item ≡ get_or new at 0
-read_written new rest len index at item e lt is same =
-    let w = written new rest len e in
-    let few = ap length w in
-    get_or_read (take len (new ++ rest)) index item (omega (arith, lt, few, e)) is 0
-    ∙ (ap (λ (xs : List ℕ). get_or xs index 0) w ∙ ap (λ (q : ℕ). get_or new q 0) same)
+read_written new rest len index at item e lt is same = grind (arith, written, get_or_read)
 
 -- where no fewer words were written than there were, the set holds these
 pub over : (old words : List ℕ) → length words ≡ length old → written_over old words ≡ words

@@ -1,7 +1,6 @@
 -- What one look at a square does to the marks and the queue.
 use Rattle.std.proofs.Common.{◌≡◌, ◌≢◌, ℕ, suc, ◌+◌, ◌<◌, ◌≤◌, false, cond, ltb, inl, inr, List, [], ◌∷◌, length}
-use Rattle.std.proofs.Common.{get_or, replicate, set, refl, sym, ap, subst, ◌∙◌, arith}
-use Rattle.std.specs.List.{sum_by}
+use Rattle.std.proofs.Common.{get_or, replicate, set, sym, ap, subst, ◌∙◌, arith}
 use Rattle.std.proofs.lemmas.Bool.{cases_eq, cases_lt, lt-ltb, le-ltb}
 use Rattle.std.proofs.lemmas.List.{get_or_past, get_or-replicate, get_or-set_same, get_or-set_other}
 use Rattle.std.proofs.lemmas.List.{length-replicate, length-set}
@@ -10,18 +9,13 @@ use Rattle.grid.specs.declared.dir.Dir.{Dir}
 use Rattle.grid.specs.Board.{Board, is_wall, next, dir_number}
 use Rattle.grid.proofs.lemmas.Steps.{inside_grid}
 use Rattle.area.specs.inside.Spread.{IsLook, passes, takes, IsSpreading, IsUnderWay, untouched}
-use Rattle.area.proofs.Spreading.{skipped, visited, turned}
+use Rattle.area.proofs.Spreading.{visited, turned}
 use Rattle.area.proofs.Nearness.{tally_one}
 
 -- a mark that reaches `base` makes one square less that was not come upon
 pub untouched-set : (base : ℕ) (marks : List ℕ) (n v : ℕ) → n < length marks → get_or marks n 0 < base → base ≤ v →
     suc (untouched base (set marks n v)) ≡ untouched base marks
-untouched-set base marks n v lt low high =
-    let f : ℕ → ℕ = λ m. cond (ltb m base) 1 0 in
-    let e : f (get_or marks n 0) ≡ 1 = rw (lt-ltb (get_or marks n 0) base low) refl in
-    let z : f v ≡ 0 = rw (le-ltb v base high) refl in
-    let t : sum_by f (set marks n v) + f (get_or marks n 0) ≡ sum_by f marks + f v = sum_by-set f marks n v 0 lt in
-    omega arith
+untouched-set base marks n v lt low high = grind (arith, lt-ltb, le-ltb, sum_by-set)
 
 module _ (board : Board) (base from : ℕ) (old marks queue : List ℕ) (head seen tail : ℕ)
     (u : IsUnderWay board base from old marks queue head seen tail) where
@@ -38,29 +32,11 @@ module _ (board : Board) (base from : ℕ) (old marks queue : List ℕ) (head se
 
   -- a square in the queue is a square of the grid
   pub queued_inside : (i : ℕ) → i < tail → get_or queue i 0 < length board.cells
-  queued_inside i lt =
-      let above : base < get_or marks (get_or queue i 0) 0 = u.spreading.queued i lt in
-      elim (cases_lt (get_or queue i 0) (length marks)) [
-        | inl inside ↦ (let r = u.room in omega arith)
-        | inr past ↦ absurd (let e : get_or marks (get_or queue i 0) 0 ≡ 0 =
-            get_or_past marks (get_or queue i 0) 0 past in omega arith)
-      ]
+  queued_inside i lt = grind (arith, cases_lt, get_or_past)
 
   -- where the queue ends
   pub tail_bound : tail ≤ length board.cells
   tail_bound = let c = u.count in let r = u.room in omega arith
-
-  -- the marks so far are small
-  pub marks_within : (q : ℕ) → get_or marks q 0 ≤ base + length board.cells
-  marks_within q = elim (cases_lt base (get_or marks q 0)) [
-    | inl above ↦ (let l = u.spreading.listed q above in
-        let b : get_or marks (get_or queue l.0 0) 0 ≤ suc base + l.0 = u.spreading.bound l.0 l.1 in
-        let e : get_or marks (get_or queue l.0 0) 0 ≡ get_or marks q 0 = ap (λ x. get_or marks x 0) l.2 in
-        let t = tail_bound in
-        let lt : l.0 < tail = l.1 in
-        omega arith)
-    | inr low ↦ omega arith
-  ]
 
 -- the search after one look, with what the next look needs to know
 pub record IsLooked (board : Board) (base from : ℕ) (old marks queue : List ℕ)
@@ -77,20 +53,7 @@ pub looked : (board : Board) (base from : ℕ) (old marks queue : List ℕ) (hea
     → next board square d ≡ n
     → IsLook board base n mark tail marks queue tail' marks' queue'
     → IsLooked board base from old marks' queue' head (suc seen) tail' square mark
-looked board base from old marks queue head seen tail square mark d n k at is (passes seen_before) = record {
-  under = record {
-    room = k.under.room;
-    places = k.under.places;
-    spreading = skipped board base from (λ q. get_or marks q 0)
-        (λ i. get_or queue i 0) head seen tail d n k.under.spreading k.here at
-        (ap (λ x. next board x d) k.at ∙ is) seen_before;
-    count = k.under.count;
-    blocked = k.under.blocked;
-  };
-  here = k.here;
-  at = k.at;
-  marked = k.marked;
-}
+looked board base from old marks queue head seen tail square mark d n k at is (passes seen_before) = grind arith
 looked board base from old marks queue head seen tail square mark d n k at is (takes clear low) =
     let u = k.under in
     let inside : n < length marks = let g : n < length board.cells = inside_grid board n clear in let r = u.room in
@@ -147,10 +110,7 @@ untouched-le base (m ∷ ms) =
 
 -- no mark is left
 pub cleared : (marks : List ℕ) (n q : ℕ) → marks ≡ replicate n 0 → get_or marks q 0 ≡ 0
-cleared marks n q e = ap (λ (ms : List ℕ). get_or ms q 0) e ∙ elim (cases_lt q n) [
-  | inl lt ↦ get_or-replicate n q 0 0 lt
-  | inr le ↦ get_or_past (replicate n 0) q 0 (let l = length-replicate {A = ℕ} n 0 in omega (arith, l))
-]
+cleared marks n q e = grind (arith, cases_lt, get_or-replicate, get_or_past, length-replicate)
 
 -- a search as it begins: one square is reached, with no step, and stands in the queue
 pub started : (board : Board) (base from : ℕ) (marks queue : List ℕ) → length marks ≡ length board.cells
@@ -210,24 +170,14 @@ pub begun : (board : Board) (base from : ℕ) (old marks queue : List ℕ) (head
     → IsUnderWay board base from old marks queue head 0 tail
     → head < tail → get_or queue head 0 ≡ square → x ≡ square
     → IsLooked board base from old marks queue head 0 tail square (get_or marks x 0 + 1)
-begun board base from old marks queue head tail square x u here at same = record {
-  under = u;
-  here = here;
-  at = at;
-  marked = let e : get_or marks x 0 ≡ get_or marks square 0 = ap (λ y. get_or marks y 0) same in omega arith;
-}
+begun board base from old marks queue head tail square x u here at same = grind arith
 
 -- after the last look
 pub passed : (board : Board) (base from : ℕ) (old marks queue : List ℕ) (head tail square mark : ℕ) →
     IsLooked board base from old marks queue head 4 tail square mark
     → IsUnderWay board base from old marks queue (head + 1) 0 tail
 passed board base from old marks queue head tail square mark k =
-    subst (λ (h : ℕ). IsUnderWay board base from old marks queue h 0 tail) (let e : suc head ≡ head + 1 = omega arith in
-    e) (record {
-      room = k.under.room;
-      places = k.under.places;
-      spreading = turned board base from (λ q. get_or marks q 0)
-          (λ i. get_or queue i 0) head tail k.under.spreading k.here;
-      count = k.under.count;
-      blocked = k.under.blocked;
-    })
+    let more = turned board base from (λ q. get_or marks q 0) (λ i. get_or queue i 0) head tail k.under.spreading
+    k.here in
+    let now : IsUnderWay board base from old marks queue (suc head) 0 tail = search in
+    subst (λ (h : ℕ). IsUnderWay board base from old marks queue h 0 tail) (omega arith) now

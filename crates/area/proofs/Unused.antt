@@ -1,5 +1,5 @@
 -- Words that have nothing after all others, and floods that leave them aside.
-use Rattle.std.proofs.Common.{◌≡◌, ℕ, ◌-◌, ◌+◌, ◌≤◌, ◌/◌, ◌%◌, List, ◌++◌, length, take, drop, get_or, inl, inr, sym, ap, ◌∙◌, arith}
+use Rattle.std.proofs.Common.{◌≡◌, ℕ, ◌≤◌, ◌/◌, ◌%◌, List, ◌++◌, length, take, drop, get_or, sym, ap, ◌∙◌, arith}
 use Rattle.std.proofs.lemmas.Bool.{cases_lt}
 use Rattle.std.proofs.lemmas.List.{get_or-take, get_or_append_left, get_or-append_right, get_or_past, get_or-drop, length-take-le}
 use Rattle.grid.specs.declared.masks.TheConstants.{WORD_BITS}
@@ -18,18 +18,12 @@ same_words few more same q =
 
 -- the first words have all numbers where the others have none
 pub same_front : (words : List ℕ) (n : ℕ) → n ≤ length words → ((k : ℕ) → n ≤ k → get_or words k 0 ≡ 0) → AreSame (take n words) words
-same_front words n inside none = same_words (take n words) words (λ k. elim (cases_lt k n) [
-  | inl lt ↦ get_or-take n words k 0 lt
-  | inr le ↦ get_or_past (take n words) k 0 (let e = length-take-le n words inside in omega (arith, e, le)) ∙ sym (none k le)
-])
+same_front words n inside none = grind (arith, same_words, cases_lt, get_or-take, get_or_past, length-take-le)
 
 -- so do words that are put in their index
 pub same_whole : (part words : List ℕ) (n : ℕ) → length part ≡ n → ((k : ℕ) → n ≤ k → get_or words k 0 ≡ 0) → AreSame part (part ++ drop n words)
-same_whole part words n size none = same_words part (part ++ drop n words) (λ k. elim (cases_lt k n) [
-  | inl lt ↦ sym (get_or_append_left part (drop n words) 0 k (omega (arith, lt, size)))
-  | inr le ↦ get_or_past part k 0 (omega (arith, le, size)) ∙ sym (get_or-append_right part (drop n words) n k 0 size le ∙
-      (get_or-drop n words (k - n) 0 ∙ none (n + (k - n)) (omega arith)))
-])
+same_whole part words n size none =
+    grind (arith, same_words, cases_lt, get_or_append_left, get_or_past, get_or-append_right, get_or-drop)
 
 -- what widens a set widens another that has the same numbers
 pub widened_same : (cols : ℕ) (free free_too old old_too new new_too : List ℕ) → AreSame free free_too → AreSame old old_too → AreSame new new_too →

@@ -1,6 +1,6 @@
 -- What a visit to a word of a set writes there.
-use Rattle.std.proofs.Common.{◌≡◌, ℕ, ◌+◌, ◌-◌, ◌*◌, ◌/◌, ◌%◌, ◌^◌, ◌<◌, ◌≤◌, Bool, true, false, ◌⊎◌, List, length}
-use Rattle.std.proofs.Common.{get_or, set, inl, inr, sym, ap, ◌∙◌, arith, refl}
+use Rattle.std.proofs.Common.{◌≡◌, ℕ, ◌+◌, ◌*◌, ◌/◌, ◌%◌, ◌^◌, ◌<◌, ◌≤◌, Bool, true, false, ◌⊎◌, List, length}
+use Rattle.std.proofs.Common.{get_or, set, sym, ap, ◌∙◌, arith, refl}
 use Rattle.std.proofs.lemmas.Bool.{cases_eq}
 use Rattle.std.proofs.lemmas.List.{get_or-set_same, get_or-set_other}
 use Rattle.std.proofs.lemmas.List.Sums.{sum_by-set}
@@ -21,16 +21,8 @@ bit_written : (old : List ℕ) (index filled q : ℕ) → index < length old
     → (q / WORD_BITS ≡ index) × (has_bit (set old index filled) q ≡ word_bit filled (q % WORD_BITS))
     × (has_bit old q ≡ word_bit (get_or old index 0) (q % WORD_BITS))
     ⊎ (has_bit (set old index filled) q ≡ has_bit old q)
-bit_written old index filled q inside = elim (cases_eq (q / WORD_BITS) index) [
-  | inl at ↦ inl (
-    at,
-    has_bit-parts (set old index filled) q ∙
-        (ap (λ (k : ℕ). word_bit (get_or (set old index filled) k 0) (q % WORD_BITS)) at ∙
-        ap (λ (w : ℕ). word_bit w (q % WORD_BITS)) (get_or-set_same old index filled 0 inside)),
-    has_bit-parts old q ∙ ap (λ (k : ℕ). word_bit (get_or old k 0) (q % WORD_BITS)) at,
-  )
-  | inr ne ↦ inr (bit_same old (set old index filled) q (get_or-set_other old index (q / WORD_BITS) filled 0 ne))
-]
+bit_written old index filled q inside =
+    grind (arith, cases_eq, has_bit-parts, get_or-set_same, bit_same, get_or-set_other)
 
 -- a word is written that has grown from a first one, which has the squares of the old word
 module _ (old : List ℕ) (index first filled : ℕ) (Passes : (ℕ → Bool) → Type 0) (inside : index < length old)
@@ -38,30 +30,19 @@ module _ (old : List ℕ) (index first filled : ℕ) (Passes : (ℕ → Bool) �
     (grown : IsGrown first filled Passes) where
   -- no square is lost
   pub written_kept : (q : ℕ) → has_bit old q ≡ true → has_bit (set old index filled) q ≡ true
-  written_kept q h = elim (bit_written old index filled q inside) [
-    | inl now ↦ now.1 ∙ grown.kept (q % WORD_BITS) (more (q % WORD_BITS) (sym now.2 ∙ h))
-    | inr same ↦ same ∙ h
-  ]
+  written_kept q h = grind (arith, bit_written)
 
   -- a test that the old set and the first word pass, and that passes on within the word, the new set passes
   pub written_sound : (test : ℕ → Bool) → Passes (λ j. test (WORD_BITS * index + j)) →
       ((j : ℕ) → word_bit first j ≡ true → test (WORD_BITS * index + j) ≡ true) → AllPass test old
       → AllPass test (set old index filled)
-  written_sound test passes at_first all q h = elim (bit_written old index filled q inside) [
-    | inl now ↦
-        (let at : WORD_BITS * index + q % WORD_BITS ≡ q = (let p = now.0 in omega arith) in
-        sym (ap test at) ∙ grown.sound (λ j. test (WORD_BITS * index + j)) passes at_first (q % WORD_BITS)
-        (sym now.1 ∙ h))
-    | inr same ↦ all q (sym same ∙ h)
-  ]
+  written_sound test passes at_first all q h = grind (arith, bit_written)
 
 -- a greater word leaves less room
 pub written_less : (old : List ℕ) (index filled : ℕ) → index < length old → filled < 2 ^ 64
     → get_or old index 0 < filled
     → room_left (set old index filled) < room_left old
-written_less old index filled inside fits more =
-    let total = sum_by-set (λ (w : ℕ). 2 ^ 64 - w) old index filled 0 inside in
-    omega (arith, total, fits, more)
+written_less old index filled inside fits more = grind (arith, sum_by-set)
 
 -- a set that grew, or stayed the same, has no more room
 pub room_less : (grew : Bool) (old new : List ℕ) → (grew ≡ true → room_left new < room_left old)

@@ -45,10 +45,7 @@ blocked_more boxes marks i q lt is inside before r = elim (cases_eq q r) [
 -- after a search the boxes still have their mark, and nothing else has it
 pub still_blocked : (boxes : Squares) (old new : List ℕ) → AreBlocked BOX_MARK boxes old → KeepsBlocked BOX_MARK old new →
     (q : ℕ) → (contains boxes q ≡ true → get_or new q 0 ≡ BOX_MARK) × (contains boxes q ≡ false → get_or new q 0 ≢ BOX_MARK)
-still_blocked boxes old new before keeps q = (
-  λ there. (keeps q).0 ((before q).0 there),
-  λ none e. (let less = (before q).1 none in let was = (keeps q).1 e in omega (arith, less, was)),
-)
+still_blocked boxes old new before keeps q = grind arith
 
 module _ (board : Board) (s : Scene) (marks : List ℕ) (sp : IsSpread board BOX_MARK s.player (λ q. get_or marks q 0))
     (bl : (q : ℕ) → (contains s.boxes q ≡ true → get_or marks q 0 ≡ BOX_MARK) ×

@@ -4,7 +4,7 @@ use Rattle.std.proofs.Common.{◌||◌, ◌↔◌, List, length, get_or, set, in
 use Rattle.std.specs.Int.{bit_not, w64}
 use Rattle.std.specs.Int.RustNames.{bit_and, bit_or}
 use Rattle.std.proofs.lemmas.Bool.{cases_Bool, cases_lt, cases_eq, not-true, eqb-true, eqb-false, or_cases, true≢false}
-use Rattle.std.proofs.lemmas.Bool.{false≢true, not-false, or_parts}
+use Rattle.std.proofs.lemmas.Bool.{not-false, or_parts}
 use Rattle.std.proofs.lemmas.List.{get_or-set_same, get_or-set_other, length-set, ext_get_or}
 use Rattle.std.proofs.lemmas.Nat.{le_or_l}
 use Rattle.grid.specs.declared.masks.TheConstants.{WORD_BITS}
@@ -89,33 +89,20 @@ module _ (cols : ℕ) (free : List ℕ) (index : ℕ) (fits : get_or free index 
       (has_bit-at free index j (word_bit_inside (get_or free index 0) j fits bit) ∙ bit) old
 
   pub all_ways : PassesOn (λ j. test (WORD_BITS * index + j)) cols (get_or free index 0)
-  all_ways = record {
-    on_down = λ i j e bit old. onto i j (inr (inl (omega (arith, e)))) bit old;
-    on_left = λ i j e bit old. onto i j (inl (inr (omega (arith, e)))) bit old;
-    on_right = λ i j e bit old. onto i j (inl (inl (omega (arith, e)))) bit old;
-    on_up = λ i j e bit old. onto i j (inr (inr (omega (arith, e)))) bit old;
-  }
+  all_ways = grind (arith, onto)
 
 -- ---- a visit
 
 -- a visit to a full word changes nothing
 visit_none : (cols : ℕ) (free old : List ℕ) (index : ℕ) → IsFull cols free index old
     → IsVisit cols free index old old false
-visit_none cols free old index full = record {
-  widened = widened_none cols free old;
-  others = λ k ne. refl;
-  less = λ h. absurd (false≢true h);
-  same = λ h. refl;
-  full = λ h. full;
-}
+visit_none cols free old index full = grind arith
 
 -- where a word has each of its free numbers, it is full
 pub visit_full : (cols : ℕ) (free old : List ℕ) (index : ℕ)
     → bit_or (get_or old index 0) (get_or free index 0) ≡ get_or old index 0
     → IsVisit cols free index old old false
-visit_full cols free old index same = visit_none cols free old index (λ p j lt near vacant there.
-    has_bit-at old index j lt ∙ (ap (λ (w : ℕ). word_bit w j) (sym same) ∙
-    bit_or_right (get_or old index 0) (get_or free index 0) j (sym (has_bit-at free index j lt) ∙ vacant)))
+visit_full cols free old index same = grind (arith, visit_none, has_bit-at, bit_or_right)
 
 module _ (cols : ℕ) (free old : List ℕ) (index came : ℕ) (inside : index < length old)
     (old_fits : get_or old index 0 < 2 ^ 64)
@@ -126,12 +113,7 @@ module _ (cols : ℕ) (free old : List ℕ) (index came : ℕ) (inside : index <
   first_bits = bit_or (get_or old index 0) (bit_and came (get_or free index 0))
 
   pub still_full : first_bits ≡ get_or old index 0 → IsFull cols free index old
-  still_full same p j lt near vacant there =
-      has_bit-at old index j lt
-      ∙ (ap (λ (w : ℕ). word_bit w j) (sym same)
-      ∙ bit_or_right (get_or old index 0) (bit_and came (get_or free index 0)) j
-      (bit_and_from came (get_or free index 0) j ((bits j lt).1 (p, near, there)) (sym (has_bit-at free index j lt)
-      ∙ vacant)))
+  still_full same p j lt near vacant there = grind (arith, has_bit-at, bit_or_right, bit_and_from)
 
   -- where a visit adds nothing to a word, it is full
   pub visit_still : first_bits ≡ get_or old index 0 → IsVisit cols free index old old false
@@ -140,15 +122,7 @@ module _ (cols : ℕ) (free old : List ℕ) (index came : ℕ) (inside : index <
   -- the numbers beside the set pass a test that all of the set pass
   first_pass : (test : ℕ → Bool) → PassesOver cols free test → AllPass test old → (j : ℕ) → word_bit first_bits j ≡ true
       → test (WORD_BITS * index + j) ≡ true
-  first_pass test passes all j h = elim (or_bit (get_or old index 0) (bit_and came (get_or free index 0)) j h) [
-    | inl here ↦ all (WORD_BITS * index + j)
-        (has_bit-at old index j (word_bit_inside (get_or old index 0) j old_fits here) ∙ here)
-    | inr new ↦
-        (let p = and_bit came (get_or free index 0) j new in
-        let lt = word_bit_inside (get_or free index 0) j free_fits p.1 in
-        let w = (bits j lt).0 p.0 in
-        passes w.0 (WORD_BITS * index + j) w.1 (has_bit-at free index j lt ∙ p.1) (all w.0 w.2))
-  ]
+  first_pass test passes all j h = grind (arith, or_bit, has_bit-at, word_bit_inside, and_bit)
 
   module _ (filled : ℕ) (Passes : (ℕ → Bool) → Type 0) (fits : filled < 2 ^ 64)
       (weaker : (test : ℕ → Bool) → PassesOver cols free test →
@@ -166,22 +140,11 @@ module _ (cols : ℕ) (free old : List ℕ) (index came : ℕ) (inside : index <
 
     -- where the word changes, there is less room left
     shrinks : filled ≢ get_or old index 0 → room_left (set old index filled) < room_left old
-    shrinks more =
-        let first = le_or_l (get_or old index 0) (bit_and came (get_or free index 0)) in
-        let last = grown.most in
-        written_less old index filled inside fits (omega (arith, first, last, more))
+    shrinks more = grind (arith, le_or_l, written_less)
 
     -- a visit that found something
     pub visit_grown : first_bits ≢ get_or old index 0 → IsVisit cols free index old (set old index filled) true
-    visit_grown more = record {
-      widened = widens;
-      others = λ k ne. get_or-set_other old index k filled 0 ne;
-      less = λ h. shrinks (λ e. more (let first = le_or_l (get_or old index 0) (bit_and came (get_or free index 0)) in
-          let last = grown.most in
-          omega (arith, first, last, e)));
-      same = λ h. absurd (true≢false h);
-      full = λ h. absurd (true≢false h);
-    }
+    visit_grown more = grind (arith, widens, get_or-set_other, shrinks, le_or_l, true≢false)
 
     -- a visit that writes its word in any case
     pub visit_written : IsVisit cols free index old (set old index filled) (not (eqb filled (get_or old index 0)))
@@ -201,12 +164,7 @@ module _ (cols : ℕ) (free old : List ℕ) (index came : ℕ) (inside : index <
 -- ---- rounds
 
 pub passing_first : (cols : ℕ) (free words : List ℕ) → IsPassing cols free 0 words words false
-passing_first cols free words = record {
-  widened = widened_none cols free words;
-  less = λ h. absurd (false≢true h);
-  same = λ h. refl;
-  full = λ h k lt. absurd (omega (arith, lt));
-}
+passing_first cols free words = grind arith
 
 pub passing_next : (cols : ℕ) (free : List ℕ) (index : ℕ) (old now new : List ℕ) (grew more : Bool)
     → IsPassing cols free index old now grew
@@ -251,14 +209,7 @@ passing_last cols free index old new grew all f = record {
 
 pub widening_on : (cols : ℕ) (free old now new : List ℕ) (index : ℕ) (grew : Bool) → IsWidening cols free index old now
     → IsVisit cols free index now new grew → grew ≡ false → IsWidening cols free (index + 1) old new
-widening_on cols free old now new index grew f v even = record {
-  widened = widened_then cols free old now new f.widened v.widened;
-  full = λ k lt. subst (λ (ws : List ℕ). IsFull cols free k ws) (sym (v.same even)) (elim (cases_lt k index) [
-    | inl early ↦ f.full k early
-    | inr late ↦ subst (λ (x : ℕ). IsFull cols free x now) (let e : index ≡ k = omega (arith, late, lt) in
-        e) (v.full even)
-  ]);
-}
+widening_on cols free old now new index grew f v even = grind arith
 
 -- a visit that added numbers changed no word that is so far before it, nor what is beside its own there
 pub widening_back : (cols : ℕ) (free old now new : List ℕ) (index back : ℕ) (grew : Bool) → cols / WORD_BITS + 1 ≤ back
@@ -298,41 +249,14 @@ pub cleared_on : (squares words now : List ℕ) (index word : ℕ) → AreCleare
     → word ≡ get_or now index 0
     → word < 2 ^ 64
     → AreCleared squares words (index + 1) (set now index (bit_and (get_or squares index 0) (bit_not w64 word)))
-cleared_on squares words now index word (size, before, rest) inside read fits = (
-  length-set now index new ∙ size,
-  λ k j lt below. elim (cases_eq k index) [
-    | inl e ↦
-        ap (λ (w : ℕ). word_bit w j) (ap (λ (x : ℕ). get_or (set now index new) x 0) e
-        ∙ get_or-set_same now index new 0 inside)
-        ∙ (word_bit-and (get_or squares index 0) (bit_not w64 word) j
-        ∙ (ap (λ (b : Bool). word_bit (get_or squares index 0) j && b) (word_bit-not word j fits below ∙
-        ap (λ (w : ℕ). not (word_bit w j)) (read ∙ rest index (omega arith)))
-        ∙ ap (λ (x : ℕ). word_bit (get_or squares x 0) j && not (word_bit (get_or words x 0) j)) (sym e)))
-    | inr ne ↦ ap (λ (w : ℕ). word_bit w j) (get_or-set_other now index k new 0 ne)
-        ∙ before k j (omega (arith, lt, ne)) below
-  ],
-  λ k le. get_or-set_other now index k new 0 (λ e. omega (arith, le, e)) ∙ rest k (omega arith),
-)
-  where
-    new : ℕ
-    new = bit_and (get_or squares index 0) (bit_not w64 word)
+cleared_on squares words now index word (size, before, rest) inside read fits =
+    grind (arith, length-set, cases_eq, get_or-set_same, word_bit-and, word_bit-not, get_or-set_other)
 
 none_past : (words : List ℕ) (q : ℕ) → WORD_BITS * length words ≤ q → has_bit words q ≡ false
-none_past words q past = elim (cases_Bool (has_bit words q)) [
-  | inl h ↦ absurd (let lt = has_bit_inside words q h in omega (arith, lt, past))
-  | inr h ↦ h
-]
+none_past words q past = grind (arith, cases_Bool, has_bit_inside)
 
 pub cleared_bit : (squares words now : List ℕ) (index q : ℕ) → AreCleared squares words index now
     → length squares ≡ length words → length words ≤ index
     → has_bit now q ≡ (has_bit squares q && not (has_bit words q))
-cleared_bit squares words now index q (size, before, rest) room whole = elim (cases_lt q (WORD_BITS * length words)) [
-  | inl lt ↦ has_bit-parts now q ∙
-      (before (q / WORD_BITS) (q % WORD_BITS) (omega (arith, lt, whole)) (omega arith)
-      ∙ cc2 (has_bit-parts squares q) (has_bit-parts words q))
-  | inr past ↦ none_past now q (omega (arith, past, size)) ∙
-      sym (ap (λ (b : Bool). b && not (has_bit words q)) (none_past squares q (omega (arith, past, room))))
-]
-  where
-    cc2 : {a b c d : Bool} → a ≡ b → c ≡ d → (b && not d) ≡ (a && not c)
-    cc2 e f = cc
+cleared_bit squares words now index q (size, before, rest) room whole =
+    grind (arith, cases_lt, has_bit-parts, none_past)

@@ -112,7 +112,7 @@ pub(crate) fn turn(ring: &Ring, dir: Dir) -> Turned
     }
 }
 
-// A flank in one column of three rows.
+// The flank whose corner, side and front are bit `index` of three rows.
 #[inline(always)]
 fn column(behind: u64, beside: u64, ahead: u64, index: usize) -> Flank
     requires { index < WORD_BITS }
@@ -125,7 +125,7 @@ fn column(behind: u64, beside: u64, ahead: u64, index: usize) -> Flank
     }
 }
 
-// A flank in one row.
+// The flank whose corner, side and front are the bits `behind`, 1 and `ahead` of a row.
 #[inline(always)]
 fn row(word: u64, behind: usize, ahead: usize) -> Flank
     requires behind { behind < WORD_BITS }

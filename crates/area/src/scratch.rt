@@ -45,7 +45,7 @@ impl Model for Scratch {
 }
 
 impl Scratch {
-    /// Takes all memory that later calls need, for levels of the same rows and columns as this one.
+    /// A scratch for levels with as many rows and columns as this one. It takes all memory that later calls need.
     ///
     /// # Errors
     ///

@@ -1,9 +1,9 @@
 -- Where walls and dead squares alone hold a box, as sets.
 use Rattle.std.proofs.Common.{◌≡◌, ◌≢◌, ◌↔◌, ◌<◌, ◌≤◌, ◌+◌, ℕ, Bool, true, false, eqb, ◌||◌, List, length, refl}
-use Rattle.std.proofs.Common.{sym, ap, subst, ◌∙◌, inl, inr, arith, IsTrue}
-use Rattle.std.proofs.lemmas.Bool.{false≢true, cases_Bool, or_cases, or_left, or_right, cases_eq, eqb-true, eq-eqb}
+use Rattle.std.proofs.Common.{sym, ap, ◌∙◌, inl, inr, arith, IsTrue}
+use Rattle.std.proofs.lemmas.Bool.{false≢true, cases_Bool}
 use Rattle.grid.specs.declared.dir.Dir.{Dir}
-use Rattle.grid.specs.declared.dir.Dir.TheVariants.{D, L, R, U}
+use Rattle.grid.specs.declared.dir.Dir.TheVariants.{D, R}
 use Rattle.grid.specs.Board.{Board, next, opposite}
 use Rattle.grid.specs.Masks.{has_bit, word_count}
 use Rattle.grid.proofs.lemmas.Steps.{inside_grid}
@@ -19,24 +19,16 @@ use Rattle.doom.proofs.Beside.{held_fast, held_cases, floor_ahead, floor_behind}
 -- ---- how far off the squares beside one are
 
 pub apart_across : (board : Board) → IsApart board R 1
-apart_across board q loose = (
-  next_right board q (inside_grid board (next board q R) (floor_ahead board q R loose)),
-  next_left board q (inside_grid board (next board q L) (floor_behind board q R loose)),
-)
+apart_across board q loose = grind (arith, next_right, inside_grid, floor_ahead, next_left, floor_behind)
 
 pub apart_along : (board : Board) (cols : ℕ) → cols ≡ board.cols → IsApart board D cols
-apart_along board cols same = subst (IsApart board D) (sym same) (λ q loose. (
-  next_below board q (inside_grid board (next board q D) (floor_ahead board q D loose)),
-  next_above board q (inside_grid board (next board q U) (floor_behind board q D loose)),
-))
+apart_along board cols same = grind (arith, next_below, inside_grid, floor_ahead, next_above, floor_behind)
 
 -- the squares beside one that nothing holds fast are others
 pub other_beside : (board : Board) (q : ℕ) (d : Dir) (by : ℕ) → 1 ≤ by → IsApart board d by → ¬ (IsFast board q d)
     → (next board q d ≢ q) ×
     (next board q (opposite d) ≢ q)
-other_beside board q d by some apart loose =
-    let (after, before) = apart q loose in
-    (λ same. omega (arith, some, after, same), λ same. omega (arith, some, before, same))
+other_beside board q d by some apart loose = grind arith
 
 -- ---- what holds a box among the members of a set
 
@@ -121,23 +113,8 @@ filled_none P words none q = (λ h. absurd (false≢true (sym (none q) ∙ h)), 
 pub filled_more : (P : ℕ → Type 0) (old new : List ℕ) (n : ℕ) → ((q : ℕ) → has_bit new q ≡ (has_bit old q || eqb n q))
     → P n → IsFilledUpTo P n old
     → IsFilledUpTo P (n + 1) new
-filled_more P old new n put p filled q = (
-  λ h. elim (or_cases (has_bit old q) (eqb n q) (sym (put q) ∙ h)) [
-    | inl before ↦ (let (lt, has) = (filled q).0 before in (omega (arith, lt), has))
-    | inr same ↦ (let e = eqb-true n q same in (omega (arith, e), subst P e p))
-  ],
-  λ (lt, has). put q ∙ elim (cases_eq n q) [
-    | inl same ↦ or_right (has_bit old q) (eqb n q) (eq-eqb n q same)
-    | inr ne ↦ or_left (has_bit old q) (eqb n q) ((filled q).1 (omega (arith, lt, ne), has))
-  ],
-)
+filled_more P old new n put p filled q = grind arith
 
 pub filled_less : (P : ℕ → Type 0) (words : List ℕ) (n : ℕ) → ¬ (P n) → IsFilledUpTo P n words
     → IsFilledUpTo P (n + 1) words
-filled_less P words n none filled q = (
-  λ h. (let (lt, has) = (filled q).0 h in (omega (arith, lt), has)),
-  λ (lt, has). elim (cases_eq n q) [
-    | inl same ↦ absurd (none (subst P (sym same) has))
-    | inr ne ↦ (filled q).1 (omega (arith, lt, ne), has)
-  ],
-)
+filled_less P words n none filled q = grind arith

@@ -28,18 +28,11 @@ module _ (board : Board) (boxes members : Squares) (clear : (q : ℕ) → contai
 
   cut_in : (test : ℕ → Bool) (q : ℕ) → contains members q ≡ true → test q ≡ true → contains (cut test) q ≡ true
   unfolding cut
-  cut_in test q member passes =
-      (let lt = inside_grid board q (clear q (frozen.some q member)) in
-      passing_within (λ x. contains members x && test x) 0 (length board.cells) q (omega arith) (omega (arith, lt)))
-      ∙ and_from (contains members q) (test q) member passes
+  cut_in test q member passes = grind (arith, inside_grid, passing_within, and_from)
 
   cut_parts : (test : ℕ → Bool) (q : ℕ) → contains (cut test) q ≡ true → (contains members q ≡ true) × (test q ≡ true)
   unfolding cut
-  cut_parts test q h = elim (cases_lt q (length board.cells)) [
-    | inl lt ↦ and_parts (contains members q) (test q)
-        (sym (passing_within (λ x. contains members x && test x) 0 (length board.cells) q (omega arith) (omega (arith, lt))) ∙ h)
-    | inr le ↦ absurd (true≢false (sym h ∙ passing_past (λ x. contains members x && test x) 0 (length board.cells) q (omega (arith, le))))
-  ]
+  cut_parts test q h = grind (arith, cases_lt, and_parts, passing_within, true≢false, passing_past)
 
   -- the test passes on from a member to the members beside it
   abbrev PassesBeside : (ℕ → Bool) → Type 0
@@ -113,13 +106,7 @@ module _ (board : Board) (boxes : Squares) (square : ℕ) (group : Squares) (tol
     HangsWith board boxes square q)
     (tells : IsTrue told ↔ ((frozen : Squares) × IsFrozen board group frozen)) where
   pub group_told : IsTrue told ↔ IsGroupFrozen board boxes square
-  group_told = (
-    λ h.
-        (let (frozen, is) = tells.0 h in
-        let hang : (m : ℕ) → contains frozen m ≡ true → HangsWith board boxes square m = λ m there. (are m).0 (is.some m there) in
-        (frozen, frozen_among board group boxes frozen (λ m there. hanging_box (hang m there)) is, hang)),
-    λ (frozen, is, hang). tells.1 (frozen, frozen_among board boxes group frozen (λ m there. (are m).1 (hang m there)) is),
-  )
+  group_told = grind (arith, frozen_among, hanging_box)
 
   pub others_told : ((q : ℕ) → contains boxes q ≡ true → is_wall board q ≡ false) → (members : Squares) → IsFrozen board boxes members → IsTrue told ⊎
       AreOthersFrozen board boxes square
@@ -132,10 +119,7 @@ module _ (board : Board) (boxes : Squares) (square : ℕ) (group : Squares) (tol
 
 -- a box that a push left where it was stood there before
 pub stood_before : (before : Squares) (from to q : ℕ) → to ≢ q → contains (insert (remove before from) to) q ≡ true → contains before q ≡ true
-stood_before before from to q other there = elim (contains-insert_cases (remove before from) to q there) [
-  | inl same ↦ absurd (other same)
-  | inr left ↦ (contains-remove_parts before from q left).1
-]
+stood_before before from to q other there = grind (arith, contains-insert_cases, contains-remove_parts)
 
 -- boxes that are doomed from one of them are doomed
 pub doomed_if_from : (board : Board) (boxes : Squares) (q : ℕ) → contains boxes q ≡ true → DoomedFrom board boxes q → Doomed board boxes

@@ -78,45 +78,21 @@ module _ (holds : Holds) (cols : ℕ) (words : List ℕ) (place across along : �
   left_there q e = bit_there (set words place left) q e ∙ ap (λ (w : ℕ). word_bit w (q % WORD_BITS)) (get_or-set_same words place left 0 inside)
 
   left_other : (q : ℕ) → q / WORD_BITS ≢ place → has_bit (set words place left) q ≡ has_bit words q
-  left_other q ne =
-      has_bit-parts (set words place left) q
-      ∙ (ap (λ (w : ℕ). word_bit w (q % WORD_BITS)) (get_or-set_other words place (q / WORD_BITS) left 0 ne) ∙ sym (has_bit-parts words q))
+  left_other q ne = grind (arith, has_bit-parts, get_or-set_other)
 
   number : (q : ℕ) → q / WORD_BITS ≡ place → WORD_BITS * place + q % WORD_BITS ≡ q
   number q e = omega (arith, e)
 
   -- a member of the word stays where both axes hold it
   stays : (q : ℕ) → q / WORD_BITS ≡ place → (has_bit (set words place left) q ≡ true) ↔ ((has_bit words q ≡ true) × IsHeldTwice holds cols (squares_of words) q)
-  stays q e = (
-    λ h.
-        (let (two, by_along) = and_bit (bit_and (get_or words place 0) across) along (q % WORD_BITS) (sym (left_there q e) ∙ h) in
-        let (old, by_across) = and_bit (get_or words place 0) across (q % WORD_BITS) two in (
-          bit_there words q e ∙ old,
-          (
-            subst (IsHeldBy holds.across 1 (squares_of words)) (number q e) ((on_across (q % WORD_BITS) (square_parts q).1).0 by_across),
-            subst (IsHeldBy holds.along cols (squares_of words)) (number q e) ((on_along (q % WORD_BITS) (square_parts q).1).0 by_along),
-          ),
-        )),
-    λ (was, held).
-        (let by_across = (on_across (q % WORD_BITS) (square_parts q).1).1 (subst (IsHeldBy holds.across 1 (squares_of words)) (sym (number q e)) held.0) in
-        let by_along = (on_along (q % WORD_BITS) (square_parts q).1).1 (subst (IsHeldBy holds.along cols (squares_of words)) (sym (number q e)) held.1) in
-        left_there q e ∙ bit_and_from (bit_and (get_or words place 0) across) along (q % WORD_BITS)
-        (bit_and_from (get_or words place 0) across (q % WORD_BITS) (sym (bit_there words q e) ∙ was) by_across) by_along),
-  )
+  stays q e = grind (arith, and_bit, left_there, bit_there, number, square_parts, bit_and_from)
 
   kept_bits : (q : ℕ) → (has_bit (set words place left) q ≡ true) ↔
       ((has_bit words q ≡ true) × (q / WORD_BITS ≡ place → IsHeldTwice holds cols (squares_of words) q))
-  kept_bits q = elim (cases_eq (q / WORD_BITS) place) [
-    | inl e ↦ (λ h. (let (was, blocked) = (stays q e).0 h in (was, λ _. blocked)), λ (was, blocked). (stays q e).1 (was, blocked e))
-    | inr ne ↦ (λ h. (sym (left_other q ne) ∙ h, λ e. absurd (ne e)), λ (was, _). left_other q ne ∙ was)
-  ]
+  kept_bits q = grind (arith, cases_eq, stays, left_other)
 
   lighter : left ≢ get_or words place 0 → weight (set words place left) < weight words
-  lighter ne =
-      let sums : weight (set words place left) + get_or words place 0 ≡ weight words + left = sum_by-set (λ (w : ℕ). w) words place left 0 inside in
-      let few = and_le_l (bit_and (get_or words place 0) across) along in
-      let less = and_le_l (get_or words place 0) across in
-      omega (arith, sums, few, less, ne)
+  lighter ne = grind (arith, sum_by-set, and_le_l)
 
   pub looked : IsLook holds cols place words (set words place left) (not (eqb left (get_or words place 0)))
   looked = record {
@@ -144,25 +120,11 @@ abbrev pub IsPlaceOf : Squares → ℕ → ℕ → Type 0
 IsPlaceOf boxes n k = (i : ℕ) × (i < n) × (get_or boxes i 0 / WORD_BITS ≡ k)
 
 pub pass_none : (holds : Holds) (cols : ℕ) (seen : ℕ → Type 0) (words : List ℕ) → ((k : ℕ) → seen k → ⊥) → IsPassOver holds cols seen words words false
-pass_none holds cols seen words none = record {
-  within = λ q h. h;
-  keeps = λ others blocked within. within;
-  less = λ h. absurd (false≢true h);
-  same = λ _. refl;
-  held = λ _ q at h. absurd (none (q / WORD_BITS) at);
-}
+pass_none holds cols seen words none = grind arith
 
 -- a word without members needs no look
 pub looked_empty : (holds : Holds) (cols : ℕ) (words : List ℕ) (place : ℕ) → get_or words place 0 ≡ 0 → IsLook holds cols place words words false
-looked_empty holds cols words place none = record {
-  kept = λ q. (λ h. (h, λ e. absurd (false≢true (sym (empty q e) ∙ h))), λ (was, _). was);
-  less = λ e. absurd (false≢true e);
-  same = λ _. refl;
-}
-  where
-    empty : (q : ℕ) → q / WORD_BITS ≡ place → has_bit words q ≡ false
-    empty q e = has_bit-parts words q ∙
-        (ap (λ (k : ℕ). word_bit (get_or words k 0) (q % WORD_BITS)) e ∙ (ap (λ (w : ℕ). word_bit w (q % WORD_BITS)) none ∙ word_bit-zero (q % WORD_BITS)))
+looked_empty holds cols words place none = grind (arith, false≢true, has_bit-parts, word_bit-zero)
 
 -- a look takes no member out that a set within the members blocks
 look_within : (holds : Holds) (cols : ℕ) (place : ℕ) (old new : List ℕ) (went : Bool) → IsLook holds cols place old new went →
@@ -208,13 +170,7 @@ pass_one_more holds cols place seen more old now new went gone both last e look 
 
 pass_over_all : (holds : Holds) (cols : ℕ) (seen : ℕ → Type 0) (old now : List ℕ) (went : Bool) → ((q : ℕ) → has_bit old q ≡ true → seen (q / WORD_BITS)) →
     IsPassOver holds cols seen old now went → IsPass holds cols old now went
-pass_over_all holds cols seen old now went all pass = record {
-  within = pass.within;
-  keeps = pass.keeps;
-  less = pass.less;
-  held = λ none. subst (λ (ws : List ℕ). AreHeld holds cols (squares_of ws)) (sym (pass.same none)) (λ q h.
-      (let there : has_bit old q ≡ true = member_bit old q h in pass.held none q (all q there) there));
-}
+pass_over_all holds cols seen old now went all pass = grind (arith, member_bit)
 
 -- word by word
 pub pass_more : (holds : Holds) (cols : ℕ) (place : ℕ) (old now new : List ℕ) (went gone both : Bool) → both ≡ (went || gone) →

@@ -1,5 +1,5 @@
 -- Pulls from the goals, turn after turn, find exactly the least numbers of pushes.
-use Rattle.std.proofs.Common.{◌≡◌, ◌≢◌, ◌<◌, ◌≤◌, ◌+◌, ◌++◌, ℕ, zero, suc, true, cond, is_some, Option, Some, None}
+use Rattle.std.proofs.Common.{◌≡◌, ◌≢◌, ◌<◌, ◌≤◌, ◌+◌, ◌++◌, ℕ, zero, suc, true, is_some, Option, Some, None}
 use Rattle.std.proofs.Common.{List, [], ◌∷◌, length, set, replicate, refl, sym, ap, subst, ◌∙◌, ◌⊎◌, inl, inr, arith}
 use Rattle.std.proofs.Common.{length-append, length-set, get_or-set_other, get_or-set_same}
 use Rattle.std.proofs.lemmas.List.{length-replicate}
@@ -9,7 +9,7 @@ use Rattle.grid.specs.declared.dir.Dir.{Dir}
 use Rattle.grid.specs.Squares.{contains}
 use Rattle.grid.specs.Board.{Board, is_goal, next, dir_number}
 use Rattle.grid.proofs.lemmas.Steps.{inside_grid}
-use Rattle.grid.proofs.lemmas.Directions.{dir_same, dir_number-lt}
+use Rattle.grid.proofs.lemmas.Directions.{dir_same}
 use Rattle.grid.proofs.lemmas.Squares.{contains-push_cases, contains-push_kept, contains-push_last}
 use Rattle.doom.specs.inside.Pulling.{far_at, CanPull, Marks, Pulls, HasWay, IsKnownWithin, IsSpread, IsFilling, DueBut}
 use Rattle.doom.specs.inside.Pulling.{IsDue, unknown}
@@ -18,27 +18,14 @@ use Rattle.doom.proofs.Ways.{goal_floor, way_pulled, some_injective, none_not_so
 -- ---- a square is marked
 
 -- it was known, and nothing changes, or it was not
-marks_split : (k q : ℕ) (far far' : List (Option ℕ)) (marked marked' : List ℕ) → Marks k q far marked far' marked' →
+abbrev IsSplit : ℕ → ℕ → List (Option ℕ) → List (Option ℕ) → List ℕ → List ℕ → Type 0
+IsSplit k q far far' marked marked' =
     ((n : ℕ) × (far_at far q ≡ Some n) × (far' ≡ far) × (marked' ≡ marked)) ⊎
     ((far_at far q ≡ None) × (far' ≡ set far q (Some k)) × (marked' ≡ marked ++ q ∷ []))
-marks_split k q far far' marked marked' (a, p) = by_entry (far_at far q) refl
-  where
-    by_entry : (o : Option ℕ) → far_at far q ≡ o
-        → ((n : ℕ) × (far_at far q ≡ Some n) × (far' ≡ far) × (marked' ≡ marked)) ⊎
-        ((far_at far q ≡ None) × (far' ≡ set far q (Some k)) × (marked' ≡ marked ++ q ∷ []))
-    by_entry (Some n) at = inl (
-      n,
-      at,
-      a ∙ ap (λ o. cond (is_some o) far (set far q (Some k))) at,
-      p
-          ∙ ap (λ o. cond (is_some o) marked (marked ++ q ∷ [])) at,
-    )
-    by_entry None at = inr (
-      at,
-      a ∙ ap (λ o. cond (is_some o) far (set far q (Some k))) at,
-      p
-          ∙ ap (λ o. cond (is_some o) marked (marked ++ q ∷ [])) at,
-    )
+
+marks_split : (k q : ℕ) (far far' : List (Option ℕ)) (marked marked' : List ℕ) → Marks k q far marked far' marked'
+    → IsSplit k q far far' marked marked'
+marks_split k q far far' marked marked' (a, p) = grind arith
 
 -- what a list reads where an entry was set
 set_here : (far : List (Option ℕ)) (q k : ℕ) → q < length far → far_at (set far q (Some k)) q ≡ Some k
@@ -63,73 +50,49 @@ set_cases far q k x n lt at = elim (eqb_tells x q) [
   | inr other ↦ inr (sym (get_or-set_other far q x (Some k) None other.1) ∙ at)
 ]
 
--- what is said of equal lists
-pub spread_along : (board : Board) (Asked : ℕ → Type 0) (Due : ℕ → Dir
-    → Type 0) (k : ℕ) (far far' : List (Option ℕ)) (due marked marked' : List ℕ)
-    → far' ≡ far → marked' ≡ marked → IsSpread board Asked Due k far due marked
-    → IsSpread board Asked Due k far' due marked'
-spread_along board Asked Due k far far' due marked marked' same still spread =
-    subst (λ ys. IsSpread board Asked Due k far' due ys) (sym still)
-    (subst (λ fs. IsSpread board Asked Due k fs due marked) (sym same) spread)
+module _ (board : Board) (Asked : ℕ → Type 0) (Due : ℕ → Dir → Type 0) (k q : ℕ) (far : List (Option ℕ))
+    (due marked : List ℕ) (lt : q < length far) (spread : IsSpread board Asked Due k far due marked) where
+  kept : far_at far q ≡ None → (x n : ℕ) → far_at far x ≡ Some n → far_at (set far q (Some k)) x ≡ Some n
+  kept none x n at = set_kept far q k x n none at
 
-spread_set : (board : Board) (Asked : ℕ → Type 0) (Due : ℕ → Dir
-    → Type 0) (k q : ℕ) (far : List (Option ℕ)) (due marked : List ℕ) → q < length far
-    → HasWay board q k → far_at far q ≡ None → IsSpread board Asked Due k far due marked
-    → IsSpread board Asked Due k (set far q (Some k)) due (marked ++ q ∷ [])
-spread_set board Asked Due k q far due marked lt way none spread = record {
-  size = length-set far q (Some k) ∙ spread.size;
-  sound = λ x n at. elim (set_cases far q k x n lt at) [
-    | inl same ↦ subst (λ y. HasWay board y n) (sym same.0) (subst (HasWay board q) (sym same.1) way)
-    | inr old ↦ spread.sound x n old
-  ];
-  goals = λ x asked goal. kept x 0 (spread.goals x asked goal);
-  most = λ x n at. elim (set_cases far q k x n lt at) [
-    | inl same ↦ omega (arith, same.1)
-    | inr old ↦ spread.most x n old
-  ];
-  before = λ x there. let (n, at, e) = spread.before x there in (n, kept x n at, e);
-  last = λ x there. elim (contains-push_cases marked q x there) [
-    | inl old ↦ kept x k (spread.last x old)
-    | inr same ↦ subst (λ y. far_at (set far q (Some k)) y ≡ Some k) same (set_here far q k lt)
-  ];
-  closed = λ x n at. elim (set_cases far q k x n lt at) [
-    | inl same ↦
-        inr (inl (subst (λ y. contains (marked ++ q ∷ []) y ≡ true) (sym same.0) (contains-push_last marked q)))
-    | inr old ↦ elim (spread.closed x n old) [
-      | inl there ↦ inl there
-      | inr (inl there) ↦ inr (inl (contains-push_kept marked q x there))
-      | inr (inr pulled) ↦ inr (inr (λ d asked pull. let (m, known, le) = pulled d asked pull in
-          (m, kept (next board x d) m known, le)))
-    ]
-  ];
-}
-  where
-    kept : (x n : ℕ) → far_at far x ≡ Some n → far_at (set far q (Some k)) x ≡ Some n
-    kept x n at = set_kept far q k x n none at
+  spread_set : HasWay board q k → far_at far q ≡ None
+      → IsSpread board Asked Due k (set far q (Some k)) due (marked ++ q ∷ [])
+  spread_set way none = record {
+    size = length-set far q (Some k) ∙ spread.size;
+    sound = λ x n at. elim (set_cases far q k x n lt at) [
+      | inl same ↦ subst (λ y. HasWay board y n) (sym same.0) (subst (HasWay board q) (sym same.1) way)
+      | inr old ↦ spread.sound x n old
+    ];
+    goals = λ x asked goal. kept none x 0 (spread.goals x asked goal);
+    most = λ x n at. elim (set_cases far q k x n lt at) [
+      | inl same ↦ omega (arith, same.1)
+      | inr old ↦ spread.most x n old
+    ];
+    before = λ x there. let (n, at, e) = spread.before x there in (n, kept none x n at, e);
+    last = λ x there. elim (contains-push_cases marked q x there) [
+      | inl old ↦ kept none x k (spread.last x old)
+      | inr same ↦ subst (λ y. far_at (set far q (Some k)) y ≡ Some k) same (set_here far q k lt)
+    ];
+    closed = λ x n at. elim (set_cases far q k x n lt at) [
+      | inl same ↦
+          inr (inl (subst (λ y. contains (marked ++ q ∷ []) y ≡ true) (sym same.0) (contains-push_last marked q)))
+      | inr old ↦ elim (spread.closed x n old) [
+        | inl there ↦ inl there
+        | inr (inl there) ↦ inr (inl (contains-push_kept marked q x there))
+        | inr (inr pulled) ↦ inr (inr (λ d asked pull. let (m, known, le) = pulled d asked pull in
+            (m, kept none (next board x d) m known, le)))
+      ]
+    ];
+  }
 
--- marking a square that has a way of k pushes keeps what a turn keeps
-pub spread_mark : (board : Board) (Asked : ℕ → Type 0) (Due : ℕ → Dir
-    → Type 0) (k q : ℕ) (far far' : List (Option ℕ)) (due marked marked' : List ℕ)
-    → q < length far → HasWay board q k → Marks k q far marked far' marked' → IsSpread board Asked Due k far due marked
-    → IsSpread board Asked Due k far' due marked'
-spread_mark board Asked Due k q far far' due marked marked' lt way marks spread =
-    elim (marks_split k q far far' marked marked' marks) [
-      | inl (n, at, same, still) ↦ spread_along board Asked Due k far far' due marked marked' same still spread
-      | inr (none, same, still) ↦
-          spread_along board Asked Due k (set far q (Some k)) far' due (marked ++ q ∷ []) marked' same still
-          (spread_set board Asked Due k q far due marked lt way none spread)
-    ]
+  module _ (far' : List (Option ℕ)) (marked' : List ℕ) (marks : Marks k q far marked far' marked') where
+    -- marking a square that has a way of k pushes keeps what a turn keeps
+    pub spread_mark : HasWay board q k → IsSpread board Asked Due k far' due marked'
+    spread_mark way = grind (arith, marks_split, spread_set)
 
--- and the square is known then
-pub marks_here : (board : Board) (Asked : ℕ → Type 0) (Due : ℕ → Dir
-    → Type 0) (k q : ℕ) (far far' : List (Option ℕ)) (due marked marked' : List ℕ)
-    → q < length far → Marks k q far marked far' marked' → IsSpread board Asked Due k far due marked
-    → IsKnownWithin far' q k
-marks_here board Asked Due k q far far' due marked marked' lt marks spread =
-    elim (marks_split k q far far' marked marked' marks) [
-      | inl (n, at, same, still) ↦ (n, ap (λ fs. far_at fs q) same ∙ at, spread.most q n at)
-      | inr (none, same, still) ↦ (k, ap (λ fs. far_at fs q) same ∙ set_here far q k lt, omega arith)
-    ]
+    -- and the square is known then
+    pub marks_here : IsKnownWithin far' q k
+    marks_here = grind (arith, marks_split, set_here)
 
 unknown_less : (far : List (Option ℕ)) (q k : ℕ) → q < length far → far_at far q ≡ None
     → suc (unknown (set far q (Some k))) ≡ unknown far
@@ -139,7 +102,7 @@ unknown_less (None ∷ far) zero k lt none = refl
 unknown_less (Some n ∷ far) (suc q) k lt none = unknown_less far q k (omega arith) none
 unknown_less (None ∷ far) (suc q) k lt none = ap suc (unknown_less far q k (omega arith) none)
 
-pub marks_count : (k q : ℕ) (far far' : List (Option ℕ)) (marked marked' : List ℕ) → q < length far
+marks_count : (k q : ℕ) (far far' : List (Option ℕ)) (marked marked' : List ℕ) → q < length far
     → Marks k q far marked far' marked'
     → length marked' + unknown far' ≤ length marked + unknown far
 marks_count k q far far' marked marked' lt marks =
@@ -182,35 +145,15 @@ pub spread_more : (board : Board) (i : ℕ) (far : List (Option ℕ)) (marked : 
     → (is_goal board i ≡ true → IsKnownWithin far i 0)
     → IsSpread board (λ q. q < i) (λ _ _. Unit {0}) 0 far [] marked
     → IsSpread board (λ q. q < i + 1) (λ _ _. Unit {0}) 0 far [] marked
-spread_more board i far marked here spread = record {
-  size = spread.size;
-  sound = spread.sound;
-  goals = λ q asked goal. elim (eqb_tells q i) [
-    | inl same ↦ subst (λ y. far_at far y ≡ Some 0) (sym same.1)
-        (nought (here (subst (λ y. is_goal board y ≡ true) same.1 goal)))
-    | inr other ↦ spread.goals q (below_last q i asked other.1) goal
-  ];
-  most = spread.most;
-  before = spread.before;
-  last = spread.last;
-  closed = spread.closed;
-}
-  where
-    nought : IsKnownWithin far i 0 → far_at far i ≡ Some 0
-    nought (n, at, le) = let none : n ≡ 0 = omega (arith, le) in at ∙ ap Some none
+spread_more board i far marked here spread = grind arith
 
 -- all squares were asked for
 pub spread_goals : (board : Board) (i : ℕ) (far : List (Option ℕ)) (marked : List ℕ) → length board.cells ≤ i →
     IsSpread board (λ q. q < i) (λ _ _. Unit {0}) 0 far [] marked → IsFilling board 0 far [] marked
-spread_goals board i far marked all spread = record {
-  size = spread.size;
-  sound = spread.sound;
-  goals = λ q asked goal. let lt = inside_grid board q (goal_floor board q goal) in spread.goals q (omega arith) goal;
-  most = spread.most;
-  before = spread.before;
-  last = spread.last;
-  closed = spread.closed;
-}
+spread_goals board i far marked all spread =
+    let goals : (q : ℕ) → Unit {0} → is_goal board q ≡ true → far_at far q ≡ Some 0 = λ q asked goal.
+    let lt = inside_grid board q (goal_floor board q goal) in spread.goals q (omega arith) goal in
+    search
 
 -- with a goal marked, fewer squares are unknown than there are
 pub few_unknown : (board : Board) (far : List (Option ℕ)) (marked : List ℕ) → IsFilling board 0 far [] marked
@@ -224,61 +167,21 @@ few_unknown board far marked filling = subst (λ n. unknown far ≤ n) filling.s
 
 -- ---- a turn
 
--- what was marked last is due in the next turn
-pub spread_turn : (board : Board) (k : ℕ) (far : List (Option ℕ)) (marked : List ℕ) → IsFilling board k far [] marked
-    → IsFilling board (suc k) far marked []
-spread_turn board k far marked spread = record {
-  size = spread.size;
-  sound = spread.sound;
-  goals = spread.goals;
-  most = λ q n at. let le = spread.most q n at in omega (arith, le);
-  before = λ q there. (k, spread.last q there, refl);
-  last = λ q there. absurd (false≢true there);
-  closed = λ q n at. elim (spread.closed q n at) [
-    | inl none ↦ absurd (false≢true none)
-    | inr (inl there) ↦ inl there
-    | inr (inr pulled) ↦ inr (inr pulled)
-  ];
-}
-
 -- a square that is due is taken up
 pub spread_pop : (board : Board) (k s : ℕ) (far : List (Option ℕ)) (due due' marked : List ℕ) → due ≡ due' ++ s ∷ []
     → IsFilling board k far due marked
     → IsDue board k s 0 far due' marked
-spread_pop board k s far due due' marked popped spread = record {
-  here = spread.before s (ap (λ ys. contains ys s) popped ∙ contains-push_last due' s);
-  spread = record {
-    size = spread.size;
-    sound = spread.sound;
-    goals = spread.goals;
-    most = spread.most;
-    before = λ q there. spread.before q (ap (λ ys. contains ys q) popped ∙ contains-push_kept due' s q there);
-    last = spread.last;
-    closed = λ q n at. elim (spread.closed q n at) [
-      | inl there ↦ elim (contains-push_cases due' s q (sym (ap (λ ys. contains ys q) popped) ∙ there)) [
-        | inl old ↦ inl old
-        | inr same ↦ inr (inr (λ d due. let none : dir_number d < 0 = due (sym same) in absurd (omega arith)))
-      ]
-      | inr (inl there) ↦ inr (inl there)
-      | inr (inr pulled) ↦ inr (inr (λ d due. pulled d tt))
-    ];
-  };
-}
+spread_pop board k s far due due' marked popped spread =
+    grind (arith, contains-push_last, contains-push_kept, contains-push_cases)
 
 -- one direction more, where a box cannot be pulled or was
 spread_due : (board : Board) (k s i : ℕ) (d : Dir) (far : List (Option ℕ)) (due marked : List ℕ) → dir_number d ≡ i →
     (CanPull board s d → IsKnownWithin far (next board s d) k) → IsDue board k s i far due marked
     → IsDue board k s (i + 1) far due marked
-spread_due board k s i d far due marked number done before = record {
-  here = before.here;
-  spread = record {
-    size = before.spread.size;
-    sound = before.spread.sound;
-    goals = before.spread.goals;
-    most = before.spread.most;
-    before = before.spread.before;
-    last = before.spread.last;
-    closed = λ q n at. elim (before.spread.closed q n at) [
+spread_due board k s i d far due marked number done before =
+    let closed : (q n : ℕ) → far_at far q ≡ Some n → (contains due q ≡ true) ⊎ ((contains marked q ≡ true) ⊎
+    ((e : Dir) → DueBut s (i + 1) q e → CanPull board q e → IsKnownWithin far (next board q e) (suc n))) =
+    λ q n at. elim (before.spread.closed q n at) [
       | inl there ↦ inl there
       | inr (inl there) ↦ inr (inl there)
       | inr (inr pulled) ↦ inr (inr (λ e due pull. elim (eqb_tells q s) [
@@ -294,9 +197,8 @@ spread_due board k s i d far due marked number done before = record {
         ]
         | inr other ↦ pulled e (λ same. absurd (other.1 same)) pull
       ]))
-    ];
-  };
-}
+    ] in
+    search
   where
     steps : (n : ℕ) → far_at far s ≡ Some n → k ≡ suc n
     steps n at = let (j, known, e) = before.here in sym e ∙ ap suc (some_injective far s j n known at)
@@ -305,11 +207,7 @@ spread_due board k s i d far due marked number done before = record {
 here_kept : (k q s : ℕ) (far far' : List (Option ℕ)) (marked marked' : List ℕ) → Marks k q far marked far' marked'
     → (n : ℕ) × (far_at far s ≡ Some n) ×
     (suc n ≡ k) → (n : ℕ) × (far_at far' s ≡ Some n) × (suc n ≡ k)
-here_kept k q s far far' marked marked' marks (n, at, e) =
-    elim (marks_split k q far far' marked marked' marks) [
-      | inl (m, old, same, still) ↦ (n, ap (λ fs. far_at fs s) same ∙ at, e)
-      | inr (none, same, still) ↦ (n, ap (λ fs. far_at fs s) same ∙ set_kept far q k s n none at, e)
-    ]
+here_kept k q s far far' marked marked' marks (n, at, e) = grind (arith, marks_split, set_kept)
 
 -- a pull in the next direction
 pub spread_pull : (board : Board) (k s i : ℕ) (d : Dir) (far far' : List (Option ℕ)) (due marked marked' : List ℕ)
@@ -323,39 +221,18 @@ spread_pull board k s i d far far' due marked marked' number (inl (pull, marks))
     let way : HasWay board (next board s d) k =
     subst (HasWay board (next board s d)) e (way_pulled board s n d (before.spread.sound s n at) pull) in
     spread_due board k s i d far' due marked' number
-    (λ _. marks_here board (λ _. Unit {0}) (DueBut s i) k
-    (next board s d) far far' due marked marked' lt marks before.spread)
+    (λ _. marks_here board (λ _. Unit {0}) (DueBut s i) k (next board s d) far due marked lt before.spread far' marked'
+    marks)
     (record {
       here = here_kept k (next board s d) s far far' marked marked' marks before.here;
-      spread = spread_mark board (λ _. Unit {0}) (DueBut s i) k
-          (next board s d) far far' due marked marked' lt way marks before.spread;
+      spread = spread_mark board (λ _. Unit {0}) (DueBut s i) k (next board s d) far due marked lt before.spread far'
+          marked' marks way;
     })
 spread_pull board k s i d far far' due marked marked' number (inr (stuck, same, still)) before =
-    subst (λ ys. IsDue board k s (i + 1) far' due ys) (sym still)
-    (subst (λ fs. IsDue board k s (i + 1) fs due marked) (sym same)
-    (spread_due board k s i d far due marked number (λ pull. absurd (stuck pull)) before))
+    rw (same, still) (spread_due board k s i d far due marked number (λ pull. absurd (stuck pull)) before)
 
 pub pull_count : (board : Board) (k s : ℕ) (d : Dir) (far far' : List (Option ℕ)) (marked marked' : List ℕ)
     → length far ≡ length board.cells
     → Pulls board k s d far marked far' marked' → length marked' + unknown far' ≤ length marked + unknown far
-pull_count board k s d far far' marked marked' size (inl (pull, marks)) =
-    marks_count k (next board s d) far far' marked marked'
-    (subst (λ n. next board s d < n) (sym size) (inside_grid board (next board s d) pull.0)) marks
+pull_count board k s d far far' marked marked' size (inl (pull, marks)) = grind (arith, marks_count, inside_grid)
 pull_count board k s d far far' marked marked' size (inr (stuck, same, still)) = rw (same, still) (omega arith)
-
--- all directions were taken
-pub spread_all : (board : Board) (k s : ℕ) (far : List (Option ℕ)) (due marked : List ℕ)
-    → IsDue board k s 4 far due marked → IsFilling board k far due marked
-spread_all board k s far due marked before = record {
-  size = before.spread.size;
-  sound = before.spread.sound;
-  goals = before.spread.goals;
-  most = before.spread.most;
-  before = before.spread.before;
-  last = before.spread.last;
-  closed = λ q n at. elim (before.spread.closed q n at) [
-    | inl there ↦ inl there
-    | inr (inl there) ↦ inr (inl there)
-    | inr (inr pulled) ↦ inr (inr (λ d due pull. pulled d (λ _. dir_number-lt d) pull))
-  ];
-}

@@ -33,16 +33,7 @@ not_held : (board : Board) (boxes : Squares) (from q : ℕ) (d : Dir) → ¬ (Is
     (from ≢ next board q (opposite d) → contains boxes (next board q (opposite d)) ≡ true → ⊥)
     → ¬ (IsHeld board (insert (remove boxes from) q) q d)
 not_held board boxes from q d loose other_a other_b ahead behind held =
-    elim (held_cases board (insert (remove boxes from) q) q d loose held) [
-      | inl a ↦ elim (contains-insert_cases (remove boxes from) q (next board q d) a) [
-        | inl same ↦ other_a (sym same)
-        | inr there ↦ (let p = contains-remove_parts boxes from (next board q d) there in ahead p.0 p.1)
-      ]
-      | inr b ↦ elim (contains-insert_cases (remove boxes from) q (next board q (opposite d)) b) [
-        | inl same ↦ other_b (sym same)
-        | inr there ↦ (let p = contains-remove_parts boxes from (next board q (opposite d)) there in behind p.0 p.1)
-      ]
-    ]
+    grind (arith, held_cases, contains-insert_cases, contains-remove_parts)
 
 -- so on an axis where the sets of what holds it fast and of the boxes have nothing
 axis_free : (board : Board) (words fast : List ℕ) (from q by : ℕ) (d : Dir) → AreFast board d fast → IsApart board d by

@@ -1,5 +1,5 @@
 -- Ways of lone boxes to goals, and the distances that pulls find of them.
-use Rattle.std.proofs.Common.{◌≡◌, ◌≤◌, ℕ, zero, suc, true, false, is_some, MatchOption, Option, Some, None, List, [], ◌∷◌, length, map, get_or, refl, sym, ap}
+use Rattle.std.proofs.Common.{◌≡◌, ◌≤◌, ℕ, suc, true, false, is_some, MatchOption, Option, Some, None, List, [], get_or, refl, sym, ap}
 use Rattle.std.proofs.Common.{subst, ◌∙◌, inl, inr, arith}
 use Rattle.std.proofs.lemmas.Bool.{false≢true}
 use Rattle.grid.specs.declared.dir.Dir.{Dir}
@@ -9,7 +9,7 @@ use Rattle.grid.specs.Board.{Board, wall_cell, goal_cell, is_wall, is_goal, next
 use Rattle.grid.proofs.lemmas.Steps.{next_back, opposite_twice}
 use Rattle.doom.specs.Deadlocks.{Live, home, onward, IsDead}
 use Rattle.doom.specs.Bounds.{IsFar, pushes_of}
-use Rattle.doom.specs.inside.Pulling.{is_marked, far_at, AreLiveFlags, AreDistances, CanPull, HasWay, IsKnownWithin, IsFilling}
+use Rattle.doom.specs.inside.Pulling.{far_at, AreDistances, CanPull, HasWay, IsKnownWithin, IsFilling}
 
 -- a goal is no wall, and so no live square is
 goal_no_wall : (c : Cell) → goal_cell c ≡ true → wall_cell c ≡ false
@@ -57,14 +57,7 @@ known_within board far goals closed q (onward d floor ahead behind way) =
     (m, known, omega (arith, le, more))
 
 pub some_injective : (far : List (Option ℕ)) (q m n : ℕ) → far_at far q ≡ Some m → far_at far q ≡ Some n → m ≡ n
-some_injective far q m n one other = same (sym one ∙ other)
-  where
-    value : Option ℕ → ℕ
-    value None = 0
-    value (Some x) = x
-
-    same : Some m ≡ Some n → m ≡ n
-    same e = ap value e
+some_injective far q m n one other = grind arith
 
 pub none_not_some : (far : List (Option ℕ)) (q n : ℕ) → far_at far q ≡ None → far_at far q ≡ Some n → ⊥
 none_not_some far q n none known = false≢true (ap is_some (sym none ∙ known))
@@ -95,30 +88,3 @@ pub distance_of : (board : Board) (far : List (Option ℕ)) (q : ℕ) (o : Optio
     MatchOption o (IsDead board q) (λ n. IsFar board q n)
 distance_of board far q None e distances = distances.dead q (sym e)
 distance_of board far q (Some n) e distances = distances.known q n (sym e)
-
--- the squares whose distance is known are the live ones
-pub flags_right : (board : Board) (far : List (Option ℕ)) → AreDistances board far → AreLiveFlags board (map (λ x. is_some x) far)
-flags_right board far distances = record {
-  size = sizes far ∙ distances.size;
-  right = λ q. (
-    λ marked. by_entry q (far_at far q) refl (sym (flag far q) ∙ marked),
-    λ way. by_way q way (far_at far q) refl,
-  );
-}
-  where
-    sizes : (xs : List (Option ℕ)) → length (map (λ x. is_some x) xs) ≡ length xs
-    sizes [] = refl
-    sizes (x ∷ xs) = ap suc (sizes xs)
-
-    flag : (xs : List (Option ℕ)) (q : ℕ) → is_marked (map (λ x. is_some x) xs) q ≡ is_some (far_at xs q)
-    flag [] q = refl
-    flag (x ∷ xs) zero = refl
-    flag (x ∷ xs) (suc q) = flag xs q
-
-    by_entry : (q : ℕ) (o : Option ℕ) → far_at far q ≡ o → is_some (far_at far q) ≡ true → Live board q
-    by_entry q None at some = absurd (false≢true (sym (ap is_some at) ∙ some))
-    by_entry q (Some n) at some = (distances.known q n at).0.0
-
-    by_way : (q : ℕ) → Live board q → (o : Option ℕ) → far_at far q ≡ o → is_marked (map (λ x. is_some x) far) q ≡ true
-    by_way q way None at = absurd (distances.dead q at way)
-    by_way q way (Some n) at = flag far q ∙ ap is_some at

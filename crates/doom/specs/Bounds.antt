@@ -1,4 +1,4 @@
--- How many pushes boxes need at least: each box as if it were alone.
+-- A lower bound on pushes: the sum of what each box needs as if it were alone.
 use Rattle.std.specs.Prelude.{◌≡◌, ℕ, suc, ◌+◌, ◌≤◌, [], ◌∷◌}
 use Rattle.grid.specs.Squares.{Squares}
 use Rattle.grid.specs.Board.{Board}

@@ -29,7 +29,7 @@ pub record IsFrozen (board : Board) (boxes members : Squares) : Type 0 where
   pub off_goal : (q : ℕ) × (contains members q ≡ true) × (is_goal board q ≡ false)
   pub blocked : (q : ℕ) → contains members q ≡ true → (d : Dir) → IsHeld board members q d
 
--- a box stands on a dead square, or some of the boxes are frozen
+-- a box is on a dead square, or some of the boxes are frozen
 abbrev pub Doomed : Board → Squares → Type 0
 Doomed board boxes =
     ((q : ℕ) × (contains boxes q ≡ true) × IsDead board q) ⊎ ((members : Squares) × IsFrozen board boxes members)

@@ -9,7 +9,7 @@ use Rattle.grid.specs.Plays.{Play, Any}
 use Rattle.doom.specs.Bounds.{IsLower}
 use Rattle.doom.specs.Deadlocks.{IsDead}
 
--- one of the boxes stands on a dead square
+-- one of the boxes is on a dead square
 abbrev pub HaveDead : Board → Squares → Type 0
 HaveDead board boxes = (q : ℕ) × (contains boxes q ≡ true) × IsDead board q
 

@@ -1,5 +1,5 @@
 -- A list that is cut into pieces.
-use Rattle.std.proofs.Common.{◌≡◌, ℕ, zero, suc, ◌+◌, ◌<◌, ◌≤◌, Bool, true, false, cond, ◌||◌, List, [], ◌∷◌, ◌++◌, length, map, take, drop, get_or, Some, None}
+use Rattle.std.proofs.Common.{◌≡◌, ℕ, zero, suc, ◌+◌, ◌<◌, ◌≤◌, Bool, true, false, ◌||◌, List, [], ◌∷◌, ◌++◌, length, map, take, drop, get_or, Some, None}
 use Rattle.std.proofs.Common.{is_some, inl, inr, refl, sym, ap, ◌∙◌, arith}
 use Rattle.std.proofs.Math.Seq.{take-length}
 use Rattle.std.proofs.lemmas.List.{length-drop, length-take}
@@ -43,15 +43,9 @@ at_piece [] (suc p) zero i lt = absurd (omega arith)
 at_piece [] (suc p) (suc q) i lt = refl
 at_piece (x ∷ xs) zero zero i lt = absurd (omega arith)
 at_piece (x ∷ xs) zero (suc q) zero lt = refl
-at_piece (x ∷ xs) zero (suc q) (suc i) lt = at_piece xs zero q i (omega arith) ∙ ap (slice_get (x ∷ xs)) e
-  where
-    e : suc (0 + i) ≡ 0 + suc i
-    e = omega arith
+at_piece (x ∷ xs) zero (suc q) (suc i) lt = grind (arith, at_piece xs zero q i (omega arith))
 at_piece (x ∷ xs) (suc p) zero i lt = absurd (omega arith)
-at_piece (x ∷ xs) (suc p) (suc q) i lt = at_piece xs p q i (omega arith) ∙ ap (slice_get (x ∷ xs)) e
-  where
-    e : suc (p + i) ≡ suc p + i
-    e = omega arith
+at_piece (x ∷ xs) (suc p) (suc q) i lt = grind (arith, at_piece xs p q i (omega arith))
 
 pub past_piece : {A : Type 0} (xs : List A) (p q i : ℕ) → q ≤ p + i → slice_get (drop p (take q xs)) i ≡ None
 past_piece xs p q i le = slice_get_past (drop p (take q xs)) i (omega (arith, length-drop p (take q xs), length-take q xs))
@@ -87,11 +81,7 @@ drop_take (x ∷ xs) (suc i) (suc j) le = drop_take xs i j (omega arith)
 
 any-append : {A : Type 0} (test : A → Bool) (xs ys : List A) → list_any test (xs ++ ys) ≡ (list_any test xs || list_any test ys)
 any-append test [] ys = refl
-any-append test (x ∷ xs) ys = ap (λ b. test x || b) (any-append test xs ys) ∙ or_or (test x) (list_any test xs) (list_any test ys)
-  where
-    or_or : (a b c : Bool) → (a || (b || c)) ≡ ((a || b) || c)
-    or_or true b c = refl
-    or_or false b c = refl
+any-append test (x ∷ xs) ys = grind (arith, any-append test xs ys)
 
 or_false : (b : Bool) → (b || false) ≡ b
 or_false true = refl
@@ -130,11 +120,7 @@ any-from test i (j ∷ js) xs rise =
 
 any-lookup : {K X : Type 0} (test : K → Bool) (es : List (K × X)) → list_any (λ e. test e.0) es ≡ is_some (lookup test es)
 any-lookup test [] = refl
-any-lookup test (e ∷ es) = go (test e.0) (any-lookup test es)
-  where
-    go : (b : Bool) → list_any (λ x. test x.0) es ≡ is_some (lookup test es) → (b || list_any (λ x. test x.0) es) ≡ is_some (cond b (Some e.1) (lookup test es))
-    go true h = refl
-    go false h = h
+any-lookup test (e ∷ es) = grind (arith, any-lookup test es)
 
 -- what is found among all is in a piece
 pub any-cuts : {K X : Type 0} (test : K → Bool) (starts : List ℕ) (es : List (K × X)) → AreCuts starts (length es) →
@@ -169,20 +155,4 @@ cut_push {A} (i ∷ is) xs ys cuts = go i is cuts.within
 
 -- and its cuts are cuts
 pub cuts_push : (starts : List ℕ) (len more : ℕ) → AreCuts starts len → AreCuts (starts ++ len ∷ []) (len + more)
-cuts_push starts len more cuts = record {
-  first = at_before starts (len ∷ []) 0 0 cuts.first;
-  rise = λ j p q at next. elim (at-push starts len (suc j) q next) [
-    | inl old ↦ elim (at-push starts len j p at) [
-      | inl old' ↦ cuts.rise j p q old' old
-      | inr last ↦ absurd (omega (arith, slice_get_within starts (suc j) q old, last.0))
-    ]
-    | inr last ↦ elim (at-push starts len j p at) [
-      | inl old' ↦ omega (arith, cuts.within j p old', last.1)
-      | inr last' ↦ absurd (omega (arith, last.0, last'.0))
-    ]
-  ];
-  within = λ j p at. elim (at-push starts len j p at) [
-    | inl old ↦ omega (arith, cuts.within j p old)
-    | inr last ↦ omega (arith, last.1)
-  ];
-}
+cuts_push starts len more cuts = grind (arith, at_before, at-push, slice_get_within)

@@ -29,10 +29,6 @@ use Rattle.layers.proofs.lemmas.Books.{level_laws}
 use Rattle.successors.proofs.lemmas.Lists.{at-push, sum_by_first}
 use Rattle.layers.proofs.lemmas.Orders.{shortlex_shorter}
 
--- with one share each position is of it
-pub one_share : (m : Scene) → share_of 1 m ≡ 0
-one_share m = omega arith
-
 no_later : (qs : List Push) → is_gt (shortlex push_cmp [] qs) ≡ false
 no_later [] = refl
 no_later (q ∷ qs) = shortlex_shorter push_cmp [] (q ∷ qs) (omega arith)
@@ -81,48 +77,36 @@ first_layer problem level shares share n safe norm fits adm own = record {
     fit zero m o at = subst (FitsLevel problem.board) (ap (λ (x : Closed). x.0) (same_Some (n, None) (m, o) at)) fits
     fit (suc i) m o at = absurd (none-some (m, o) at)
 
--- layer 0 of another share is empty
-pub other_layer : (problem : Problem) → IsLevel problem.board → (shares share : ℕ) (n : Scene) → Undoomed problem.board (start problem.board) →
-    IsNorm problem.board (start problem.board) n → ¬ (share_of shares n ≡ share) → IsShareOfLayer problem shares share 0 []
-other_layer problem level shares share n safe norm other = record {
-  layer = record {
-    leads = λ r m at. absurd (none-some m at);
-    rise = λ r s m l ps qs lt at_r at_s. absurd (none-some m at_r);
-    whole = λ ps m reach long part. absurd (other (ap (share_of shares) (same ps m reach long) ∙ part.0));
-  };
-  origins = λ i m o at. absurd (none-some (m, o) at);
-  fits = λ i m o at. absurd (none-some (m, o) at);
-}
+-- where no position that is reached without a push is of a share, its layer 0 is empty
+empty_layer : (problem : Problem) (shares share : ℕ) → ((ps : List Push) (m : Scene) → Reaches problem.board ps m
+    → length ps ≡ 0 → (share_of shares m ≡ share) × Admits problem 0 m → ⊥) → IsShareOfLayer problem shares share 0 []
+empty_layer problem shares share none = grind arith
+
+-- so is that of another share
+pub other_layer : (problem : Problem) → IsLevel problem.board → (shares share : ℕ) (n : Scene)
+    → Undoomed problem.board (start problem.board) → IsNorm problem.board (start problem.board) n
+    → ¬ (share_of shares n ≡ share) → IsShareOfLayer problem shares share 0 []
+other_layer problem level shares share n safe norm other =
+    empty_layer problem shares share (λ ps m reach long part. other (ap (share_of shares) (same ps m reach long) ∙ part.0))
   where
     same : (ps : List Push) (m : Scene) → Reaches problem.board ps m → length ps ≡ 0 → n ≡ m
     same [] m reach long = (level_laws problem level).same [] n m ([], start problem.board, stay safe, norm) reach
     same (p ∷ ps) m reach long = absurd (omega arith)
 
 -- where the start is doomed layer 0 is empty
-pub doomed_layer : (problem : Problem) (shares share : ℕ) → Doomed problem.board (start problem.board).boxes → IsShareOfLayer problem shares share 0 []
-doomed_layer problem shares share doomed = record {
-  layer = record {
-    leads = λ r m at. absurd (none-some m at);
-    rise = λ r s m l ps qs lt at_r at_s. absurd (none-some m at_r);
-    whole = λ ps m reach long part. absurd (play_first reach.2 doomed);
-  };
-  origins = λ i m o at. absurd (none-some (m, o) at);
-  fits = λ i m o at. absurd (none-some (m, o) at);
-}
+pub doomed_layer : (problem : Problem) (shares share : ℕ) → Doomed problem.board (start problem.board).boxes
+    → IsShareOfLayer problem shares share 0 []
+doomed_layer problem shares share doomed =
+    empty_layer problem shares share (λ ps m reach long part. play_first reach.2 doomed)
 
 -- and where the start is not admitted
-barred_layer : (problem : Problem) → IsLevel problem.board → (shares share : ℕ) → ¬ (Admits problem 0 (start problem.board)) → IsShareOfLayer problem shares share 0 []
-barred_layer problem level shares share barred = record {
-  layer = record {
-    leads = λ r m at. absurd (none-some m at);
-    rise = λ r s m l ps qs lt at_r at_s. absurd (none-some m at_r);
-    whole = λ ps m reach long part. absurd (barred (admitted_alike problem 0 m (start problem.board) (unmoved ps m reach long) part.1));
-  };
-  origins = λ i m o at. absurd (none-some (m, o) at);
-  fits = λ i m o at. absurd (none-some (m, o) at);
-}
+barred_layer : (problem : Problem) → IsLevel problem.board → (shares share : ℕ)
+    → ¬ (Admits problem 0 (start problem.board)) → IsShareOfLayer problem shares share 0 []
+barred_layer problem level shares share barred = empty_layer problem shares share (λ ps m reach long part.
+    barred (admitted_alike problem 0 m (start problem.board) (unmoved ps m reach long) part.1))
   where
-    unmoved : (ps : List Push) (m : Scene) → Reaches problem.board ps m → length ps ≡ 0 → m.boxes ≡ (start problem.board).boxes
+    unmoved : (ps : List Push) (m : Scene) → Reaches problem.board ps m → length ps ≡ 0
+        → m.boxes ≡ (start problem.board).boxes
     unmoved [] m (ds, t, play, norm) long = norm.boxes ∙ walk_keeps_boxes play
     unmoved (p ∷ ps) m reach long = absurd (omega arith)
 
@@ -137,15 +121,11 @@ share_without problem level shares share first is none = by (subst (IsFirst prob
 
 pub share_with : (problem : Problem) → IsLevel problem.board → (shares share : ℕ) (first : Option Scene) (m : Scene) → IsFirst problem first → first ≡ Some m →
     share_of shares m ≡ share → IsShareOfLayer problem shares share 0 ((m, None) ∷ [])
-share_with problem level shares share first m is some own =
-    let w : IsFirst problem (Some m) = subst (IsFirst problem) some is in
-    first_layer problem level shares share m w.0 w.1 w.2 w.3 own
+share_with problem level shares share first m is some own = grind (arith, first_layer)
 
 pub share_beside : (problem : Problem) → IsLevel problem.board → (shares share : ℕ) (first : Option Scene) (m : Scene) → IsFirst problem first → first ≡ Some m →
     ¬ (share_of shares m ≡ share) → IsShareOfLayer problem shares share 0 []
-share_beside problem level shares share first m is some other =
-    let w : IsFirst problem (Some m) = subst (IsFirst problem) some is in
-    other_layer problem level shares share m w.0 w.1 other
+share_beside problem level shares share first m is some other = grind (arith, other_layer)
 
 pub first_few : (m : Option Scene) → length (first_entries m) ≤ 1
 first_few None = omega arith
@@ -155,22 +135,28 @@ none_summed : (n : ℕ) → sum (replicate n 0) ≡ 0
 none_summed zero = refl
 none_summed (suc n) = omega (arith, sum_by_first (λ (x : ℕ). x) 0 (replicate n 0), none_summed n)
 
+-- a book before its first begin
+abbrev new_book : Problem → ℕ → ℕ → ℕ → ℕ → List (List Closed) → List Bool → List Bool → List (OpenEntry Scene Push)
+    → List ℕ → BookView
+new_book problem limit workers share shares closed claimed done waiting tallies = record {
+  level = problem;
+  limit = limit;
+  workers = workers;
+  share = share;
+  shares = shares;
+  closed = closed;
+  begun = false;
+  claimed = claimed;
+  done = done;
+  waiting = waiting;
+  tallies = tallies;
+  over = false;
+}
+
 -- a new book is lawful
-pub lawful_new : (problem : Problem) (limit workers share shares : ℕ) (es : List Closed) → IsLevel problem.board → AreBounds limit workers share shares →
-    IsShareOfLayer problem shares share 0 es → length es ≤ limit → IsLawfulBook (record {
-      level = problem;
-      limit = limit;
-      workers = workers;
-      share = share;
-      shares = shares;
-      closed = es ∷ [];
-      begun = false;
-      claimed = [];
-      done = [];
-      waiting = [];
-      tallies = replicate workers 0;
-      over = false;
-    })
+pub lawful_new : (problem : Problem) (limit workers share shares : ℕ) (es : List Closed) → IsLevel problem.board
+    → AreBounds limit workers share shares → IsShareOfLayer problem shares share 0 es → length es ≤ limit
+    → IsLawfulBook (new_book problem limit workers share shares (es ∷ []) [] [] [] (replicate workers 0))
 lawful_new problem limit workers share shares es level bounds layer few = record {
   level = level;
   bounds = bounds;
@@ -204,62 +190,21 @@ module _ (problem : Problem) (limit workers share shares : ℕ) (starts tallies 
     (starts_are : starts ≡ replicate 1 0) (tallies_are : tallies ≡ replicate workers 0) (no_claims : claimed ≡ []) (none_done : done ≡ [])
     (none_waits : waiting ≡ []) where
   abbrev fresh : BookView
-  fresh = record {
-    level = problem;
-    limit = limit;
-    workers = workers;
-    share = share;
-    shares = shares;
-    closed = cut_at starts es;
-    begun = false;
-    claimed = claimed;
-    done = done;
-    waiting = waiting;
-    tallies = tallies;
-    over = false;
-  }
+  fresh = new_book problem limit workers share shares (cut_at starts es) claimed done waiting tallies
 
   closed_is : cut_at starts es ≡ es ∷ []
   closed_is = ap (λ s. cut_at s es) starts_are ∙ ap (λ xs. xs ∷ []) (drop_none es)
 
   pub fresh_lawful : IsLevel problem.board → AreBounds limit workers share shares → IsLawfulBook fresh
-  fresh_lawful level bounds = subst IsLawfulBook
-      (λ i. record {
-        level = problem;
-        limit = limit;
-        workers = workers;
-        share = share;
-        shares = shares;
-        closed = sym closed_is i;
-        begun = false;
-        claimed = sym no_claims i;
-        done = sym none_done i;
-        waiting = sym none_waits i;
-        tallies = sym tallies_are i;
-        over = false;
-      }) (lawful_new problem limit workers share shares es level bounds layer.0 (omega (arith, layer.1, bounds.limits.0)))
+  fresh_lawful level bounds = grind (arith, closed_is, lawful_new)
 
   pub fresh_cuts : AreCuts starts (length es)
-  fresh_cuts = subst (λ s. AreCuts s (length es)) (sym starts_are)
-      (record { first = refl; rise = λ j p q at next. absurd (none-some q next); within = λ j p at. within j p at }) where
-        within : (j p : ℕ) → slice_get (0 ∷ []) j ≡ Some p → p ≤ length es
-        within zero p at = omega (arith, same_Some 0 p at)
-        within (suc j) p at = absurd (none-some p at)
+  fresh_cuts = grind arith
 
   pub fresh_new : IsNewBook problem limit workers share shares fresh
-  fresh_new = record {
-    made_with = (refl, refl, refl, refl, refl);
-    closed = (es, closed_is, layer.0);
-    begun = refl;
-    nothing = (no_claims, none_done, none_waits);
-    tallies = tallies_are;
-    over = refl;
-  }
+  fresh_new = grind arith
 
 -- ---- new books, one share after the other
 pub one_share_more : (problem : Problem) (limit workers share shares : ℕ) (books : List BookView) (book : BookView) → length books ≡ share →
     AreNewInOrder problem limit workers shares books → IsNewBook problem limit workers share shares book → AreNewInOrder problem limit workers shares (books ++ book ∷ [])
-one_share_more problem limit workers share shares books book long before last = λ i v at. elim (at-push books book i v at) [
-  | inl old ↦ before i v old
-  | inr new ↦ subst (λ k. IsNewBook problem limit workers k shares v) (sym (new.0 ∙ long)) (subst (IsNewBook problem limit workers share shares) (sym new.1) last)
-]
+one_share_more problem limit workers share shares books book long before last = grind (arith, at-push)

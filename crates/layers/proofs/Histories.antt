@@ -1,7 +1,7 @@
 -- What a book keeps under any list of events, and what their order decides.
 use Rattle.std.proofs.Common.{◌≡◌, ℕ, zero, suc, ◌<◌, ◌≤◌, Bool, true, false, List, [], ◌∷◌, ◌++◌, length, drop, get_or, Option, Some, None, refl, sym, ap}
-use Rattle.std.proofs.Common.{subst, ◌∙◌, arith}
-use Rattle.std.proofs.lemmas.List.{length-append, length-map}
+use Rattle.std.proofs.Common.{set, subst, ◌∙◌, arith}
+use Rattle.std.proofs.lemmas.List.{length-append, length-map, length-set}
 use Rattle.std.proofs.lemmas.Option.{same_Some, slice_get_within}
 use Rattle.std.specs.Prelude.{slice_get}
 use Rattle.std.specs.declared.cmp.Ordering.TheVariants.{Less}
@@ -22,7 +22,7 @@ use Rattle.layers.specs.Events.{BookEvent, Happens, History, AreMadeAlike, Keeps
 use Rattle.layers.specs.Events.BookEvent.{begins, begin_refused, claims, hands_back, hand_back_refused, reopens, closes, close_refused}
 use Rattle.layers.specs.Events.History.{nothing, event}
 use Rattle.layers.proofs.lemmas.Books.{level_laws, read_at, same_places}
-use Rattle.layers.proofs.lemmas.BookEvents.{lawful_begin, lawful_claim, lawful_parcel, lawful_over, lawful_reopen, lawful_closed}
+use Rattle.layers.proofs.lemmas.BookEvents.{lawful_begin, lawful_claimed, marks_long, lawful_parcel, lawful_over, lawful_closed}
 use Rattle.successors.proofs.lemmas.Lists.{map_at, at_before}
 use Rattle.layers.proofs.lemmas.Exchange.{lead_unique}
 use Rattle.layers.proofs.First.{lawful_new}
@@ -43,10 +43,11 @@ happens_lawful : (v : BookView) (e : BookEvent) (w : BookView) → IsLawfulBook 
 happens_lawful v (begins layer) w book did = subst IsLawfulBook (sym did.2) (lawful_begin v layer book did.0 did.1)
 happens_lawful v (begin_refused layer fault) w book did = subst IsLawfulBook (sym did.2) book
 happens_lawful v (claims None) w book did = subst IsLawfulBook (sym did.1) book
-happens_lawful v (claims (Some claim)) w book did = subst IsLawfulBook (sym did.3) (lawful_claim v claim.rank book)
+happens_lawful v (claims (Some claim)) w book did = subst IsLawfulBook (sym did.3)
+    (lawful_claimed v (set v.claimed claim.rank true) (length-set v.claimed claim.rank true) book)
 happens_lawful v (hands_back worker parcel) w book did = subst IsLawfulBook (sym did.3) (lawful_parcel v worker parcel book did.0 did.1 did.2)
 happens_lawful v (hand_back_refused worker parcel refusal) w book did = subst IsLawfulBook (sym did.3) (refused_lawful v parcel refusal book did.1 did.2)
-happens_lawful v reopens w book did = subst IsLawfulBook (sym did) (lawful_reopen v book)
+happens_lawful v reopens w book did = subst IsLawfulBook (sym did) (lawful_claimed v v.done (sym (marks_long v book)) book)
 happens_lawful v (closes report) w book did = subst IsLawfulBook (sym did.1.2) (lawful_closed v did.1.0 book did.0 did.1.1)
 happens_lawful v (close_refused fault) w book did = subst IsLawfulBook (sym did.1) book
 
@@ -88,9 +89,7 @@ history_lawful v w (e ∷ es) book (event {m = m} did rest) = history_lawful m w
 
 pub history_made : (v w : BookView) (es : List BookEvent) → History v es w → AreMadeAlike v w
 history_made v _ [] nothing = (refl, refl, refl, refl, refl)
-history_made v w (e ∷ es) (event {m = m} did rest) =
-    let a = (happens_lasts v e m did).0 in let b = history_made m w es rest in
-    (a.0 ∙ b.0, a.1 ∙ b.1, a.2 ∙ b.2, a.3 ∙ b.3, a.4 ∙ b.4)
+history_made v w (e ∷ es) (event {m = m} did rest) = grind (arith, history_made m w es rest)
 
 pub history_closed : (v w : BookView) (es : List BookEvent) → History v es w → KeepsClosed v w
 history_closed v _ [] nothing = λ k xs found. found
@@ -138,10 +137,7 @@ push_same : {A : Type 0} (xs ys : List A) (x y : A) → xs ++ x ∷ [] ≡ ys ++
 push_same [] [] x y e = (refl, same_Some x y (ap (λ zs. slice_get zs 0) e))
 push_same [] (b ∷ ys) x y e = absurd (omega (arith, ap length e, length-append ys (y ∷ [])))
 push_same (a ∷ xs) [] x y e = absurd (omega (arith, ap length e, length-append xs (x ∷ [])))
-push_same (a ∷ xs) (b ∷ ys) x y e =
-    let head = same_Some a b (ap (λ zs. slice_get zs 0) e) in
-    let rest = push_same xs ys x y (ap (drop 1) e) in
-    (λ i. head i ∷ rest.0 i, rest.1)
+push_same (a ∷ xs) (b ∷ ys) x y e = grind (arith, push_same xs ys x y (ap (drop 1) e))
 
 -- a position has one origin in the layer before
 one_origin : (problem : Problem) → IsLevel problem.board → (k : ℕ) (xs : List Scene) → IsLayerOf problem k xs → (m : Scene) (o p : Origin Push) → HasOrigin problem k m o →

@@ -1,6 +1,6 @@
 -- The last closed lists of all the shares, merged, are the whole layer.
-use Rattle.std.proofs.Common.{◌≡◌, ℕ, zero, suc, ◌+◌, ◌^◌, ◌<◌, ◌≤◌, Bool, true, false, List, [], ◌∷◌, ◌++◌, length, map, take, get_or, Option, Some, inl, inr}
-use Rattle.std.proofs.Common.{refl, sym, ap, subst, ◌∙◌, arith}
+use Rattle.std.proofs.Common.{◌≡◌, ℕ, zero, suc, ◌+◌, ◌^◌, ◌<◌, ◌≤◌, List, [], ◌∷◌, ◌++◌, length, map, take, get_or, Option, Some, inl, inr}
+use Rattle.std.proofs.Common.{sym, ap, subst, ◌∙◌, arith}
 use Rattle.std.proofs.lemmas.List.{length-append}
 use Rattle.std.specs.Prelude.{slice_get}
 use Rattle.grid.specs.declared.square.Push.{Push}
@@ -25,11 +25,7 @@ use Rattle.layers.proofs.lemmas.Shares.{some_shares, first_book, last_shares, bo
 
 -- the layers before the last closed one are known whole
 wholes_long : (v : BookView) (book : IsLawfulBook v) → last_layer v ≤ length book.wholes
-wholes_long v book = go v.begun refl
-  where
-    go : (b : Bool) → v.begun ≡ b → last_layer v ≤ length book.wholes
-    go true e = omega (arith, (book.begun e).0)
-    go false e = omega (arith, (book.not_begun e).0)
+wholes_long v book = grind arith
 
 pub one_of_all : {A : Type 0} (xss : List (List A)) (k : ℕ) → length (get_or xss k []) ≤ total xss
 one_of_all [] k = omega arith
@@ -54,14 +50,7 @@ module _ (books : List BookView) (all : AreAllShares books) (lawful : AreLawfulB
 
   -- all the last closed lists are no more than all books may hold
   pub few_last : total lists ≤ MOST_POSITIONS
-  few_last =
-      omega (
-        arith,
-        few_books,
-        total-map last_list books,
-        sum_by-word (λ (v : BookView). length (last_list v)) books (λ i v at. (let small = small_book i v at in
-            omega (arith, small, one_of_all v.closed (last_layer v)))),
-      )
+  few_last = grind (arith, few_books, total-map, sum_by-word, small_book, one_of_all)
 
   module _ (es : List Closed) (merged : IsMerged lists es) where
     before : (j : ℕ) → last_layer first ≡ suc j → (xs : List Scene) × IsLayerOf first.level j xs

@@ -60,14 +60,9 @@ or_false false c e = e
 pub one_marked : (words more : List ℕ) (k n r rank : ℕ) → rank ≡ k + r → r < n → ((q : ℕ) → has_bit more q ≡ (has_bit words q || eqb rank q)) →
     marks_from more k n ≡ set (marks_from words k n) r true
 one_marked words more k zero r rank e lt bits = absurd (omega (arith, lt))
-one_marked words more k (suc n) zero rank e lt bits =
-    let here : has_bit more k ≡ true = bits k ∙ or_true (has_bit words k) (eqb rank k) (eq-eqb rank k (omega (arith, e))) in
-    let rest = same_marks more words (suc k) n (λ q le. bits q ∙ or_false (has_bit words q) (eqb rank q) (ne_eqb rank q (λ f. omega (arith, e, f, le)))) in
-    λ i. here i ∷ rest i
+one_marked words more k (suc n) zero rank e lt bits = grind (arith, or_true, eq-eqb, same_marks, or_false, ne_eqb)
 one_marked words more k (suc n) (suc r) rank e lt bits =
-    let here : has_bit more k ≡ has_bit words k = bits k ∙ or_false (has_bit words k) (eqb rank k) (ne_eqb rank k (λ f. omega (arith, e, f))) in
-    let rest = one_marked words more (suc k) n r rank (omega (arith, e)) (omega (arith, lt)) bits in
-    λ i. here i ∷ rest i
+    grind (arith, one_marked words more (suc k) n r rank (omega (arith, e)) (omega (arith, lt)) bits)
 
 -- ---- how many are set
 
@@ -118,14 +113,10 @@ module _ (words : List ℕ) (len : ℕ) (now : List Bool) (view : marks_of words
 
   -- the mark of a rank
   pub told_mark : (read : List ℕ) (rank : ℕ) (b : Bool) → read ≡ words → rank < len → b ≡ has_bit read rank → Some b ≡ slice_get now rank
-  told_mark read rank b same lt e =
-      ap (λ (x : Bool). Some x) (e ∙ ap (λ (ws : List ℕ). has_bit ws rank) same ∙ ap (has_bit words) (from_none rank))
-      ∙ sym (mark_at words 0 len rank lt) ∙ ap (λ (bs : List Bool). slice_get bs rank) view
+  told_mark read rank b same lt e = grind (arith, from_none, mark_at)
 
   pub read_mark : (read : List ℕ) (rank : ℕ) (b : Bool) → read ≡ words → rank < len → b ≡ has_bit read rank → b ≡ get_or now rank false
-  read_mark read rank b same lt e =
-      e ∙ ap (λ (ws : List ℕ). has_bit ws rank) same ∙ ap (has_bit words) (from_none rank)
-      ∙ sym (mark_read words 0 len rank lt) ∙ ap (λ (bs : List Bool). get_or bs rank false) view
+  read_mark read rank b same lt e = grind (arith, from_none, mark_read)
 
   -- and none beyond them
   pub told_none : (rank : ℕ) → len ≤ rank → None ≡ slice_get now rank
@@ -139,10 +130,7 @@ module _ (words : List ℕ) (len : ℕ) (now : List Bool) (view : marks_of words
     pub all_or_not : (b : Bool) → b ≡ eqb count len → MatchBool b ((r : ℕ) → r < length now →
         get_or now r false ≡ true) ((r : ℕ) × (slice_get now r ≡ Some false))
     all_or_not true e = all_counted now (omega (arith, counted, marks_long, eqb-true count len (sym e)))
-    all_or_not false e = one_missing now (less (count_by-le-length (λ (x : Bool). x) now) (λ same. true≢false (sym (eq-eqb count len same) ∙ sym e)))
-      where
-        less : count_by (λ (x : Bool). x) now ≤ length now → count ≢ len → count_by (λ (x : Bool). x) now < length now
-        less le ne = omega (arith, le, ne, counted, marks_long)
+    all_or_not false e = grind (arith, one_missing, count_by-le-length, true≢false, eq-eqb, counted, marks_long)
 
     -- one more is set
     module _ (rank : ℕ) (free : slice_get now rank ≡ Some false) where
@@ -184,10 +172,7 @@ module _ (words : List ℕ) (many ranks : ℕ) (zeros : words ≡ replicate many
   fresh_marks = no_marks words 0 ranks (λ q. none_set words many q zeros)
 
   pub are_fresh : many ≡ word_count ranks → AreRankBits words ranks 0
-  are_fresh enough = record {
-    enough = ap length zeros ∙ length-replicate {A = ℕ} many 0 ∙ enough;
-    counted = sym (ap (count_by (λ (x : Bool). x)) fresh_marks ∙ none_counted ranks);
-  }
+  are_fresh enough = grind (arith, length-replicate, counted, fresh_marks, none_counted)
 
 -- as many words as bits for so many ranks
 pub word_count_is : (many ranks : ℕ) → many ≡ (ranks + (WORD_BITS - 1)) / WORD_BITS → many ≡ word_count ranks

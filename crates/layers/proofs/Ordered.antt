@@ -143,16 +143,7 @@ module _ {Sooner : Closed → Closed → Type 0} (lists : List (List Closed)) (t
   module _ (taken : List Closed) (rests : List (List Closed)) (s : ℕ) (e : Closed) (more : List Closed) (takes : Takes lists taken rests)
       (least : IsLeastFirst rests s e more) (old : IsTakenInOrder taken rests) where
     rises : Rises Sooner (taken ++ e ∷ [])
-    rises i j a b lt at_a at_b = elim (at-push taken e i a at_a) [
-      | inl first ↦ elim (at-push taken e j b at_b) [
-        | inl second ↦ old.0 i j a b lt first second
-        | inr last ↦ old.1 a (i, first) s (e ∷ more) b least.here (0, ap (λ (g : Closed). Some g) (sym last.1))
-      ]
-      | inr first ↦ elim (at-push taken e j b at_b) [
-        | inl second ↦ absurd (omega (arith, first.0, slice_get_within taken j b second))
-        | inr last ↦ absurd (omega (arith, first.0, last.0))
-      ]
-    ]
+    rises i j a b lt at_a at_b = grind (arith, at-push, slice_get_within)
 
     -- the one that is taken now is before what begins another list, and so before all of it
     next : (t : ℕ) (rest : List Closed) (b : Closed) → t ≢ s → slice_get rests t ≡ Some rest → IsIn rest b → Sooner e b

@@ -35,11 +35,7 @@ use Rattle.store.proofs.lemmas.Origins.{origin_total}
 pub drop_first : {A : Type 0} (xs : List A) (p : ℕ) (x : A) (rest : List A) → drop p xs ≡ x ∷ rest → (slice_get xs p ≡ Some x) × (drop (suc p) xs ≡ rest)
 drop_first [] zero x rest e = cc
 drop_first [] (suc p) x rest e = cc
-drop_first (y ∷ ys) zero x rest e = (ap (λ zs. slice_get zs 0) e, drop_none ys ∙ ap (drop 1) e ∙ sym (drop_none rest))
-  where
-    drop_none : {A : Type 0} (zs : List A) → zs ≡ drop 0 zs
-    drop_none [] = refl
-    drop_none (z ∷ zs) = refl
+drop_first (y ∷ ys) zero x rest e = grind arith
 drop_first (y ∷ ys) (suc p) x rest e = drop_first ys p x rest e
 
 -- where something is left, the place is within the list
@@ -112,10 +108,7 @@ module _ (rests : List (List Closed)) (place : ℕ) (list : List Closed) (at : s
   -- an empty list changes nothing
   pub least_kept : (least : Option ℕ) (bound : Origin Push) → IsLeastSoFar rests place least bound → first_origin list ≡ None →
       IsLeastSoFar rests (place + 1) least bound
-  least_kept None bound before none = λ t f more lt at_t. elim (upto t lt) [
-    | inl less ↦ before t f more less at_t
-    | inr e ↦ none-some (origin_in f.1) (sym none ∙ here_is t f more e at_t)
-  ]
+  least_kept None bound before none = grind arith
   least_kept (Some s) bound before none = (
     before.0,
     before.1,
@@ -189,10 +182,7 @@ least_found rests place (Some s) bound le so =
 -- the place of a least first entry is that of a list, and something is left of it
 pub first_there : (rests : List (List Closed)) (s : ℕ) (list : List Closed) → HasLeastFirst rests s → list ≡ get_or rests s list →
     (s < length rests) × (0 < length list)
-first_there rests s list (e, rest, least) is = (
-  slice_get_within rests s (e ∷ rest) least.here,
-  omega (arith, ap length (is ∙ get_or_from_slice_get rests s (e ∷ rest) list least.here)),
-)
+first_there rests s list (e, rest, least) is = grind (arith, slice_get_within, get_or_from_slice_get)
 
 -- it is taken, copied, and less is left
 pub one_more : (lists rests : List (List Closed)) (s : ℕ) (list now : List Closed) (squares more_squares : List ℕ)

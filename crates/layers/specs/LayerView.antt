@@ -18,14 +18,14 @@ pub record LayerView : Type 0 where
   pub places : List Scene
   pub origins : List (Origin Push)
 
--- each position has its parent's rank and its push, with which its lead ends
+-- each position has its parent's rank and the push that ends its lead
 pub record HaveOrigins (problem : Problem) (k : ℕ) (places : List Scene) (origins : List (Origin Push)) : Type 0 where
   pub each : length origins ≡ length places
   pub right : (r : ℕ) (m : Scene) (o : Origin Push) → slice_get places r ≡ Some m → slice_get origins r ≡ Some o →
       HasOrigin problem k m o
 
--- the whole layer of its level under its cap, in the order of the leads; layers 0 to it are no more than all books
--- may hold
+-- the whole layer of its level under its cap, in the order of the leads; layers 0 to this one have at most
+-- `MOST_POSITIONS` positions
 pub record IsWhole (v : LayerView) : Type 0 where
   pub lawful : IsLevel v.level.board
   pub layer : IsLayerOf v.level v.number v.places

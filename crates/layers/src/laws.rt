@@ -51,8 +51,9 @@ pub fn the_shares_make_up_the_layer()
     ensures sum { (problem : Problem) (shares k : ℕ) (lists : List (List Closed)) (layer : List Scene) →
         IsLevel problem.board → 0 < shares →
         AreSharesOfLayer problem shares k lists → IsLayerOf problem k layer → total lists ≡ length layer }
-    ensures part { (problem : Problem) (shares share k : ℕ) (list : List Closed) (layer : List Scene) → IsLevel problem.board →
-        IsShareOfLayer problem shares share k list → IsLayerOf problem k layer → length list ≤ length layer }
+    ensures part { (problem : Problem) (shares share k : ℕ) (list : List Closed) (layer : List Scene) →
+        IsLevel problem.board → IsShareOfLayer problem shares share k list → IsLayerOf problem k layer →
+        length list ≤ length layer }
 {}
 
 /// Lawful books that are all the shares hold all the shares of their last closed layer. Their closed positions add up

@@ -4,7 +4,8 @@
 //! Use it to write a layer search with your own workers: make books for all shares ([`Book::of_all_shares`]), expand
 //! each rank of a layer once ([`expand`]), hand the parcel to each book ([`Book::hand_back`]), close the books
 //! ([`Book::close`]) and join them ([`Layer::join`]). The order of events and the number of books do not change a layer
-//! (proved). A position takes some 50 to 150 bytes. The items of `successors` that callers need are exported here too.
+//! (proved). A position takes some 50 to 150 bytes, with more than 11 boxes up to 370. The items of `successors` that
+//! callers need are exported here too.
 //!
 //! With the `level` of a room of three rows of three squares, the box in the middle, its goal at the top left and the
 //! player at the bottom right:

@@ -1,20 +1,17 @@
 -- The rows of bytes of a key: how they are written, and what is read from them.
-use Rattle.std.proofs.Common.{◌≡◌, ℕ, zero, suc, ◌+◌, ◌-◌, ◌*◌, ◌/◌, ◌%◌, ◌<◌, ◌≤◌, Bool, true, false, ◌&&◌, ◌==◌, inl, inr, List, [], ◌∷◌, ◌++◌, length}
-use Rattle.std.proofs.Common.{map, take, drop, set, fold, replicate, get_or, nat_eq, Some, add-one, refl, sym, ap, subst, ◌∙◌, arith}
-use Rattle.std.proofs.lemmas.Bool.Decides.{nat_tests}
-use Rattle.std.proofs.lemmas.List.{length-map, length-take-le, take_more_set, take-take}
+use Rattle.std.proofs.Common.{◌≡◌, ℕ, zero, suc, ◌+◌, ◌*◌, ◌/◌, ◌%◌, ◌<◌, ◌≤◌, true, List, [], ◌∷◌, ◌++◌, length}
+use Rattle.std.proofs.Common.{map, take, drop, set, replicate, Some, add-one, refl, sym, ap, subst, ◌∙◌, arith}
+use Rattle.std.proofs.lemmas.List.{length-map, length-take-le, take_more_set}
 use Rattle.std.proofs.lemmas.Option.{same_Some}
-use lib.Pointwise.{pointwise, bytes_decides}
 use Rattle.std.specs.Prelude.{slice_get}
 use Rattle.grid.specs.declared.square.Push.{Push}
 use Rattle.grid.specs.Board.{Scene}
 use Rattle.successors.specs.declared.parcel.Successor.{Successor}
-use Rattle.store.specs.Entries.{OpenEntry, Closed, same_scene}
+use Rattle.store.specs.Entries.{OpenEntry, Closed}
 use Rattle.grid.specs.Rising.{is_rising}
 use Rattle.store.specs.FoundView.{AllFit, AreBelow, FitsGrid, FoundView, found_view}
-use Rattle.store.specs.inside.KeyRows.{AllSuit, IsKey, Suits, SuitsLevel, high_bytes, joined_bytes, key_scene, key_squares, key_writes, low_bytes, zero_padded}
+use Rattle.store.specs.inside.KeyRows.{AllSuit, IsKey, Suits, SuitsLevel, high_bytes, joined_bytes, key_scene, key_squares, low_bytes, zero_padded}
 use Rattle.store.specs.inside.KeyRows.{scene_in}
-use Rattle.store.proofs.lemmas.Offers.{and_both, same_true, same_since}
 use Rattle.successors.proofs.lemmas.Lists.{map-push}
 
 -- ---- how they are written
@@ -70,19 +67,11 @@ both_back (suc n) (x ∷ xs) le = let e : x % 256 + 256 * (x / 256) ≡ x = omeg
 
 back : (n k : ℕ) (m : Scene) → Suits n k m →
     take (length (key_squares m)) (joined_bytes (zero_padded n (low_bytes (key_squares m))) (zero_padded k (high_bytes (key_squares m)))) ≡ key_squares m
-back n k m suits = elim suits.bytes [
-  | inl same ↦ ap (λ j. take (length (key_squares m)) (joined_bytes (zero_padded n (low_bytes (key_squares m))) (zero_padded j (high_bytes (key_squares m))))) same ∙
-      both_back n (key_squares m) (omega (arith, suits.capacity))
-  | inr small ↦ ap (λ j. take (length (key_squares m)) (joined_bytes (zero_padded n (low_bytes (key_squares m))) (zero_padded j (high_bytes (key_squares m))))) small.0 ∙
-      low_back n (key_squares m) (omega (arith, suits.capacity)) small.1
-]
+back n k m suits = grind (arith, suits, both_back, low_back)
 
 in_row : (row : List ℕ) (m : Scene) → take (length (key_squares m)) row ≡ key_squares m → scene_in (length m.boxes) row ≡ m
 in_row [] m e = absurd (let n : 0 ≡ suc (length m.boxes) = ap length e in omega (arith, n))
-in_row (x ∷ xs) m e =
-    let player : x ≡ m.player = ap (λ ys. get_or ys 0 0) e in
-    let boxes : take (length m.boxes) xs ≡ m.boxes = ap (drop 1) e in
-    λ i. record { boxes = boxes i; player = player i }
+in_row (x ∷ xs) m e = grind arith
 
 -- the rows of a position show it
 pub shown : (n k : ℕ) (m : Scene) → Suits n k m → key_scene (length m.boxes) (zero_padded n (low_bytes (key_squares m))) (zero_padded k (high_bytes (key_squares m))) ≡ m
@@ -90,17 +79,7 @@ shown n k m suits = in_row (joined_bytes (zero_padded n (low_bytes (key_squares 
 
 pub is_key : (n k count : ℕ) (low high : List ℕ) (m : Scene) → Suits n k m → is_rising m.boxes ≡ true → count ≡ length m.boxes →
     low ≡ zero_padded n (low_bytes (key_squares m)) → high ≡ zero_padded k (high_bytes (key_squares m)) → IsKey n k count low high × (key_scene count low high ≡ m)
-is_key n k count low high m suits rising count_is low_is high_is =
-    let view : key_scene count low high ≡ m = (λ i. key_scene (count_is i) (low_is i) (high_is i)) ∙ shown n k m suits in (
-      record {
-        capacity = omega (arith, suits.capacity, count_is);
-        counted = count_is ∙ ap (λ (s : Scene). length s.boxes) (sym view);
-        rising = ap (λ (s : Scene). is_rising s.boxes) view ∙ rising;
-        low_is = low_is ∙ ap (λ (s : Scene). zero_padded n (low_bytes (key_squares s))) (sym view);
-        high_is = high_is ∙ ap (λ (s : Scene). zero_padded k (high_bytes (key_squares s))) (sym view);
-      },
-      view,
-    )
+is_key n k count low high m suits rising count_is low_is high_is = grind (arith, shown, suits)
 
 pub joined_at : (low high : List ℕ) (place l h : ℕ) → slice_get low place ≡ Some l → slice_get high place ≡ Some h →
     slice_get (joined_bytes low high) place ≡ Some (l + 256 * h)
@@ -115,20 +94,6 @@ joined_past (x ∷ low) [] zero l e le = e
 joined_past (x ∷ low) [] (suc place) l e le = joined_past low [] place l e (omega arith)
 joined_past (x ∷ low) (y ∷ high) zero l e le = absurd (omega arith)
 joined_past (x ∷ low) (y ∷ high) (suc place) l e le = joined_past low high place l e (omega arith)
-
-front_at : {A : Type 0} (n : ℕ) (xs : List A) (i : ℕ) → i < n → slice_get (take n xs) i ≡ slice_get xs i
-front_at zero xs i lt = absurd (omega arith)
-front_at (suc n) [] i lt = refl
-front_at (suc n) (x ∷ xs) zero lt = refl
-front_at (suc n) (x ∷ xs) (suc i) lt = front_at n xs i (omega arith)
-
-pub boxed : (count : ℕ) (row : List ℕ) (place x : ℕ) → slice_get row (suc place) ≡ Some x → place < count → slice_get (scene_in count row).boxes place ≡ Some x
-boxed count [] place x e lt = cc
-boxed count (y ∷ ys) place x e lt = front_at count ys place lt ∙ e
-
-pub played : (count : ℕ) (row : List ℕ) (x : ℕ) → slice_get row 0 ≡ Some x → x ≡ (scene_in count row).player
-played count [] x e = cc
-played count (y ∷ ys) x e = sym (same_Some y x e)
 
 taken : (xs : List ℕ) (i x : ℕ) → slice_get xs i ≡ Some x → take (suc i) xs ≡ take i xs ++ x ∷ []
 taken [] i x at = cc
@@ -145,32 +110,7 @@ pub one_written : (row ys : List ℕ) (i x : ℕ) → take i row ≡ take i ys �
 one_written row ys i x e at lt = one_more ys (take i row) (take (i + 1) (set row i x)) i x e at (take_more_set row i x lt)
 
 pub behind_first : (xs : List ℕ) (i x : ℕ) → slice_get xs (i + 1) ≡ Some x → slice_get (drop 1 xs) i ≡ Some x
-behind_first xs i x at = go xs (ap (slice_get xs) (sym (add-one i)) ∙ at)
-  where
-    go : (ys : List ℕ) → slice_get ys (suc i) ≡ Some x → slice_get (drop 1 ys) i ≡ Some x
-    go [] e = cc
-    go (y ∷ []) e = cc
-    go (y ∷ z ∷ ys) e = e
-
-none_taken : (n : ℕ) → take {A = ℕ} n [] ≡ []
-none_taken zero = refl
-none_taken (suc n) = refl
-
-boxes_in : (count : ℕ) (all : List ℕ) → take count (drop 1 all) ≡ (scene_in count all).boxes
-boxes_in count [] = none_taken count
-boxes_in count (x ∷ []) = refl
-boxes_in count (x ∷ y ∷ ys) = refl
-
--- the squares of the boxes were written to a row, and the player's after them
-pub all_written : (n count player : ℕ) (row all : List ℕ) (m : Scene) → take (n - 1) row ≡ take (n - 1) (drop 1 all) → count < n → length row ≡ n →
-    scene_in count all ≡ m → player ≡ m.player → take (count + 1) (set row count player) ≡ m.boxes ++ m.player ∷ []
-all_written n count player row all m e lt long view player_is =
-    take_more_set row count player (omega (arith, lt, long)) ∙ (λ i. boxes i ++ player_is i ∷ [])
-  where
-    boxes : take count row ≡ m.boxes
-    boxes =
-        sym (take-take count (n - 1) row (omega (arith, lt))) ∙ ap (take count) e ∙ take-take count (n - 1) (drop 1 all) (omega (arith, lt)) ∙
-        boxes_in count all ∙ ap (λ (s : Scene). s.boxes) view
+behind_first xs i x at = grind arith
 
 -- a key that was made of a position's squares shows it
 pub made : (n k count player : ℕ) (low high boxes : List ℕ) (m : Scene) → Suits n k m → boxes ≡ m.boxes → player ≡ m.player → is_rising boxes ≡ true →
@@ -184,54 +124,7 @@ made n k count player low high boxes m suits boxes_are player_is rising counted 
 
 -- ---- comparing
 
--- the fields are the same exactly where the positions are
-pub same_fields : (n k a b : ℕ) (low others high higher : List ℕ) (s t : Scene) → IsKey n k a low high → IsKey n k b others higher → key_scene a low high ≡ s →
-    key_scene b others higher ≡ t →
-    (((a == b) && pointwise nat_eq low others) && pointwise nat_eq high higher) ≡ same_scene s t
-same_fields n k a b low others high higher s t one other view views = both (((a == b) && pointwise nat_eq low others) &&
-    pointwise nat_eq high higher) refl (same_scene s t) refl
-  where
-    forth : (((a == b) && pointwise nat_eq low others) && pointwise nat_eq high higher) ≡ true → same_scene s t ≡ true
-    forth e =
-        let x = and_both ((a == b) && pointwise nat_eq low others) (pointwise nat_eq high higher) e in
-        let y = and_both (a == b) (pointwise nat_eq low others) x.0 in
-        let count : a ≡ b = (let h = y.0 in grind (arith, nat_tests)) in
-        let lows = (bytes_decides low others).0 y.1 in
-        let highs = (bytes_decides high higher).0 x.1 in
-        same_since s t (sym view ∙ (λ i. key_scene (count i) (lows i) (highs i)) ∙ views)
-
-    three : (p q r : Bool) → p ≡ true → q ≡ true → r ≡ true → ((p && q) && r) ≡ true
-    three true true r e f g = g
-    three true false r e f g = cc
-    three false q r e f g = cc
-
-    back_again : same_scene s t ≡ true → (((a == b) && pointwise nat_eq low others) && pointwise nat_eq high higher) ≡ true
-    back_again e =
-        let same : key_scene a low high ≡ key_scene b others higher = view ∙ same_true s t e ∙ sym views in
-        let count : a ≡ b = one.counted ∙ ap (λ (m : Scene). length m.boxes) same ∙ sym other.counted in
-        let lows : low ≡ others = one.low_is ∙ ap (λ (m : Scene). zero_padded n (low_bytes (key_squares m))) same ∙ sym other.low_is in
-        let highs : high ≡ higher = one.high_is ∙ ap (λ (m : Scene). zero_padded k (high_bytes (key_squares m))) same ∙ sym other.high_is in
-        let counts : (a == b) ≡ true = grind (arith, nat_tests) in
-        three (a == b) (pointwise nat_eq low others) (pointwise nat_eq high higher) counts ((bytes_decides low others).1 lows)
-        ((bytes_decides high higher).1 highs)
-
-    both : (p : Bool) → (((a == b) && pointwise nat_eq low others) && pointwise nat_eq high higher) ≡ p → (q : Bool) → same_scene s t ≡ q →
-        (((a == b) && pointwise nat_eq low others) && pointwise nat_eq high higher) ≡ same_scene s t
-    both true e q f = e ∙ sym (forth e)
-    both false e true f = back_again f ∙ sym f
-    both false e false f = e ∙ sym f
-
 -- ---- feeding a hasher
-
-pub fed_both : {S : Type 0} (write : S → List ℕ → S) (n k : ℕ) (before after : S) (low high : List ℕ) (m : Scene) → low ≡ zero_padded n (low_bytes (key_squares m)) →
-    high ≡ zero_padded k (high_bytes (key_squares m)) → 0 < k → after ≡ write (write before low) high → after ≡ fold write before (key_writes n k m)
-fed_both write n zero before after low high m low_is high_is lt e = absurd (omega arith)
-fed_both write n (suc k) before after low high m low_is high_is lt e = e ∙ (λ i. write (write before (low_is i)) (high_is i))
-
-pub fed_low : {S : Type 0} (write : S → List ℕ → S) (n k : ℕ) (before after : S) (low : List ℕ) (m : Scene) → low ≡ zero_padded n (low_bytes (key_squares m)) →
-    ¬ (0 < k) → after ≡ write before low → after ≡ fold write before (key_writes n k m)
-fed_low write n zero before after low m low_is none e = e ∙ ap (write before) low_is
-fed_low write n (suc k) before after low m low_is none e = absurd (none (omega arith))
 
 -- ---- positions of a level
 
@@ -241,10 +134,7 @@ below_more n k (x ∷ xs) le below = (omega (arith, below.0), below_more n k xs 
 
 -- keys that suit a level suit its positions
 pub suits : (n k boxes squares : ℕ) (m : Scene) → SuitsLevel n k boxes squares → FitsGrid boxes squares m → Suits n k m
-suits n k boxes squares m level fits = record {
-  capacity = omega (arith, level.capacity, fits.few);
-  bytes = elim level.bytes [ inl same ↦ inl same | inr small ↦ inr (small.0, below_more squares 256 (key_squares m) small.1 fits.below) ];
-}
+suits n k boxes squares m level fits = grind (arith, below_more)
 
 -- so they suit what fits what is found
 pub found_suit : (n k boxes squares start : ℕ) (es : List Closed) (pending : List (OpenEntry Scene Push)) (v : FoundView) (ss : List Successor) →

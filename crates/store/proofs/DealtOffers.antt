@@ -1,13 +1,12 @@
 -- The offers of successors that are dealt to the shares.
-use Rattle.std.proofs.Common.{◌≡◌, ℕ, suc, ◌+◌, ◌<◌, ◌==◌, Bool, true, false, List, [], ◌∷◌, ◌++◌, length, take, get_or, Some, refl, sym, ap, ◌∙◌}
-use Rattle.std.proofs.Common.{if◌then◌else◌, arith}
+use Rattle.std.proofs.Common.{◌≡◌, ℕ, suc, ◌+◌, ◌<◌, List, [], ◌∷◌, ◌++◌, length, take, get_or, Some, refl, sym, ap, ◌∙◌}
+use Rattle.std.proofs.Common.{arith}
 use Rattle.std.proofs.lemmas.List.{append-nil, append_assoc, length-append, take_more}
 use Rattle.std.proofs.lemmas.Option.{slice_get-get_or}
 use Rattle.std.specs.Prelude.{slice_get}
 use Rattle.grid.specs.declared.square.Push.{Push}
 use Rattle.grid.specs.Board.{Scene}
 use Rattle.store.specs.Entries.{OpenEntry}
-use Rattle.successors.specs.Shares.{share_of}
 use Rattle.store.specs.FoundView.{offers_of}
 use Rattle.successors.specs.declared.parcel.Successor.{Successor}
 use Rattle.successors.specs.inside.Dealt.{share_places, successor_places}
@@ -18,9 +17,7 @@ use Rattle.store.specs.inside.Offers.{offer_in, offers_at}
 pub offers_at_more : (rank : ℕ) (ss : List Successor) (ps : List ℕ) (p : ℕ) →
     offers_at rank ss (ps ++ p ∷ []) ≡ offers_at rank ss ps ++ offer_in rank (slice_get ss p)
 offers_at_more rank ss [] p = append-nil (offer_in rank (slice_get ss p))
-offers_at_more rank ss (q ∷ ps) p =
-    ap (λ es. offer_in rank (slice_get ss q) ++ es) (offers_at_more rank ss ps p)
-    ∙ sym (append_assoc (offer_in rank (slice_get ss q)) (offers_at rank ss ps) (offer_in rank (slice_get ss p)))
+offers_at_more rank ss (q ∷ ps) p = grind (arith, offers_at_more rank ss ps p)
 
 -- so one more place is looked at
 pub offer_more : (rank i p : ℕ) (ss : List Successor) (places : List ℕ) (s : Successor) (before now after : List (OpenEntry Scene Push)) →
@@ -41,21 +38,7 @@ share_offers : (shares share rank k : ℕ) (before ss : List Successor) → k �
     offers_at rank (before ++ ss) (share_places shares share k (sums_of ss)) ≡ offers_of shares share rank ss
 share_offers shares share rank k before [] e = refl
 share_offers shares share rank k before (s ∷ ss) e =
-    go (share_offers shares share rank (suc k) (before ++ s ∷ []) ss (omega (arith, e, length-append before (s ∷ [])))) (share_of shares s.position == share)
-  where
-    all : List Successor
-    all = before ++ s ∷ ss
-
-    places : List ℕ
-    places = share_places shares share (suc k) (sums_of ss)
-
-    here : slice_get all k ≡ Some s
-    here = ap (λ n. slice_get all n) e ∙ at_middle before s ss
-
-    go : offers_at rank ((before ++ s ∷ []) ++ ss) places ≡ offers_of shares share rank ss → (b : Bool) →
-        offers_at rank all (put_if b k places) ≡ (if b then (s.position, (rank, s.push)) ∷ [] else []) ++ offers_of shares share rank ss
-    go rest true = (λ i. offer_in rank (here i) ++ (ap (λ (xs : List Successor). offers_at rank xs places) (sym (append_assoc before (s ∷ []) ss)) ∙ rest) i)
-    go rest false = ap (λ (xs : List Successor). offers_at rank xs places) (sym (append_assoc before (s ∷ []) ss)) ∙ rest
+    grind (arith, share_offers shares share rank (suc k) (before ++ s ∷ []) ss (omega (arith, e, length-append before (s ∷ []))), length-append, sums_of, at_middle, put_if, append_assoc)
 
 -- so with the offers at the places of a share appended, those of the share are
 pub dealt_offers : (shares share rank told : ℕ) (found ss : List Successor) (places : List ℕ) (before after : List (OpenEntry Scene Push)) →

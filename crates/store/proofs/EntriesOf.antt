@@ -1,6 +1,6 @@
 -- What entering a position with its label, or setting its least total, does to the entries of a map.
 use Rattle.std.proofs.Common.{◌≡◌, ℕ, zero, suc, ◌+◌, ◌<◌, ◌≤◌, Bool, true, false, cond, not, List, [], ◌∷◌, ◌++◌, length, map, Option, Some, None}
-use Rattle.std.proofs.Common.{option_map, inl, inr, refl, sym, ap, subst, ◌∙◌, if◌then◌else◌, true≢false, arith}
+use Rattle.std.proofs.Common.{option_map, inr, refl, sym, ap, subst, ◌∙◌, if◌then◌else◌, arith}
 use Rattle.std.proofs.lemmas.Option.{same_Some, none-some, slice_get-map}
 use Rattle.std.proofs.lemmas.List.{length-map}
 use Rattle.std.specs.Prelude.{slice_get, slice_set}
@@ -36,18 +36,11 @@ keys_shown (e ∷ es) = ap (λ ms. e.0 ∷ ms) (keys_shown es)
 
 new_rest : (m : Scene) (e : Labelled) (es : List Labelled) → lookup (same_scene m) (e ∷ es) ≡ None →
     (same_scene m e.0 ≡ false) × (lookup (same_scene m) es ≡ None)
-new_rest m e es none = by (same_scene m e.0) refl none
-  where
-    by : (b : Bool) → same_scene m e.0 ≡ b → cond b (Some e.1) (lookup (same_scene m) es) ≡ None →
-        (same_scene m e.0 ≡ false) × (lookup (same_scene m) es ≡ None)
-    by true same none = absurd (none-some e.1 (sym none))
-    by false other none = (other, none)
+new_rest m e es none = grind arith
 
 none_has : (m : Scene) (es : List Labelled) → lookup (same_scene m) es ≡ None → IsNew (entries_of es) m
 none_has m [] none i x at same = none-some x at
-none_has m (e ∷ es) none zero x at same =
-    let there : m ≡ e.0 = sym (ap (λ (y : Node). y.position) (same_Some (entry_of e) x at) ∙ same) in
-    true≢false (sym (same_since m e.0 there) ∙ (new_rest m e es none).0)
+none_has m (e ∷ es) none zero x at same = grind (arith, same_Some, same_since, new_rest)
 none_has m (e ∷ es) none (suc i) x at same = none_has m es (new_rest m e es none).1 i x at same
 
 put_last : (m : Scene) (w : Label) (es : List Labelled) → lookup (same_scene m) es ≡ None → insert_entry same_scene es m w ≡ es ++ (m, w) ∷ []
@@ -67,11 +60,7 @@ last_place m (x ∷ es) none =
 pub comes_last : (m : Scene) (w : Label) (es after : List Labelled) (place : ℕ) → lookup (same_scene m) es ≡ None →
     place ≡ position_or_len (same_scene m) (keys_of es) → after ≡ insert_entry same_scene es m w →
     HasEntered (entries_of es) (entries_of after) (entry_of (m, w)) (Some place)
-comes_last m w es after place none at put = inl (
-  at ∙ last_place m es none ∙ sym (length-map es entry_of),
-  ap entries_of (put ∙ put_last m w es none) ∙ map-push entry_of es (m, w),
-  none_has m es none,
-)
+comes_last m w es after place none at put = grind (arith, last_place, length-map, put_last, map-push, none_has)
 
 -- ---- a position that an entry has
 
@@ -137,9 +126,7 @@ written (e ∷ es) (suc place) w x at = ap (λ ys. entry_of e ∷ ys) (written e
 label_at : (es : List Labelled) (place : ℕ) (label : Label) (x : Node) → slice_get (values_of es) place ≡ Some label →
     slice_get (entries_of es) place ≡ Some x → x ≡ entry_of (x.position, label)
 label_at [] place label x is at = absurd (none-some x at)
-label_at (e ∷ es) zero label x is at =
-    let same = same_Some (entry_of e) x at in
-    sym same ∙ (λ i. entry_of ((same i).position, same_Some e.1 label is i))
+label_at (e ∷ es) zero label x is at = grind arith
 label_at (e ∷ es) (suc place) label x is at = label_at es place label x is at
 
 -- nothing else changes

@@ -1,9 +1,9 @@
 -- The open entries are brought into the order of its origins, by exchanges of two.
-use Rattle.std.proofs.Common.{◌≡◌, ◌≢◌, ℕ, zero, suc, ◌+◌, ◌-◌, ◌<◌, ◌≤◌, add-one, List, [], ◌∷◌, ◌++◌, length, map, take, drop, replicate, set, get_or}
+use Rattle.std.proofs.Common.{◌≡◌, ◌≢◌, ℕ, zero, suc, ◌+◌, ◌-◌, ◌<◌, ◌≤◌, add-one, List, [], ◌∷◌, ◌++◌, length, map, take, drop, set, get_or}
 use Rattle.std.proofs.Common.{IsPermutation, Some, refl, sym, ap, subst, ◌∙◌, inl, inr, arith}
 use Rattle.std.proofs.lemmas.Bool.{cases_eq, cases_lt}
 use Rattle.std.proofs.lemmas.Bool.Decides.{nat_tests}
-use Rattle.std.proofs.lemmas.List.{length-map, length-append, length-replicate, length-set, length-drop, length-take-le}
+use Rattle.std.proofs.lemmas.List.{length-map, length-append, length-set, length-drop, length-take-le}
 use Rattle.std.proofs.lemmas.List.Edits.{length-swap}
 use Rattle.std.proofs.lemmas.List.Sorted.{length_permutation, IsPermutation-map, IsPermutation-sym}
 use Rattle.std.proofs.lemmas.Option.{same_Some, slice_get-get_or, slice_get_within, get_or_from_slice_get, none-some}
@@ -85,35 +85,6 @@ pub record IsExchanged (start : ℕ) (before : List Closed) (aims : List ℕ) (n
   pub fixed : (x : ℕ) → x < place → slice_get targets x ≡ Some x
   pub within : place ≤ length targets
 
-pub none_exchanged : (start : ℕ) (before : List Closed) (aims : List ℕ) → length before ≡ start + length aims → AreApart aims →
-    IsExchanged start before aims before aims 0
-none_exchanged start before aims all apart = record {
-  all = all;
-  long = (refl, refl);
-  front = λ i lt. refl;
-  apart = apart;
-  aimed = λ others put. put;
-  fixed = λ x lt. absurd (omega (arith, lt));
-  within = omega arith;
-}
-
--- one that is at its target
-pub one_fixed : (start : ℕ) (before : List Closed) (aims : List ℕ) (now : List Closed) (targets : List ℕ) (place target : ℕ) →
-    IsExchanged start before aims now targets place → slice_get targets place ≡ Some target → target ≡ place →
-    IsExchanged start before aims now targets (suc place)
-one_fixed start before aims now targets place target is at here = record {
-  all = is.all;
-  long = is.long;
-  front = is.front;
-  apart = is.apart;
-  aimed = is.aimed;
-  fixed = λ x lt. elim (cases_lt x place) [
-    | inl less ↦ is.fixed x less
-    | inr more ↦ (let e : x ≡ place = omega (arith, lt, more) in ap (slice_get targets) e ∙ at ∙ ap (λ (n : ℕ). Some n) (here ∙ sym e))
-  ];
-  within = omega (arith, slice_get_within targets place target at);
-}
-
 -- one that is not
 module _ (start : ℕ) (before : List Closed) (aims : List ℕ) (now : List Closed) (targets : List ℕ) (place target : ℕ)
     (is : IsExchanged start before aims now targets place) (at : slice_get targets place ≡ Some target) (ne : target ≢ place) where
@@ -187,9 +158,7 @@ length-rows k (w ∷ ws) = ap suc (length-rows (suc k) ws)
 
 pub rows-push : (k : ℕ) (ws : List (OpenEntry Scene Push)) (w : OpenEntry Scene Push) → rows_of k (ws ++ w ∷ []) ≡ rows_of k ws ++ (w.1, k + length ws) ∷ []
 rows-push k [] w = let e : k ≡ k + 0 = omega arith in λ i. (w.1, e i) ∷ []
-rows-push k (v ∷ ws) w =
-    let e : suc k + length ws ≡ k + suc (length ws) = omega arith in
-    ap (λ (rs : List Row). (v.1, k) ∷ rs) (rows-push (suc k) ws w ∙ ap (λ n. rows_of (suc k) ws ++ (w.1, n) ∷ []) e)
+rows-push k (v ∷ ws) w = grind (arith, rows-push (suc k) ws w)
 
 rows_at : (k : ℕ) (ws : List (OpenEntry Scene Push)) (i p : ℕ) (w : OpenEntry Scene Push) → slice_get ws i ≡ Some w → p ≡ k + i →
     slice_get (rows_of k ws) i ≡ Some (w.1, p)
@@ -235,10 +204,7 @@ module _ (ws : List (OpenEntry Scene Push)) (rows : List Row) (same : IsPermutat
   by_rows = map entry_of rows
 
   entry_is : (i : ℕ) (r : Row) → slice_get rows i ≡ Some r → (slice_get ws r.1 ≡ Some (entry_of r)) × ((entry_of r).1 ≡ r.0)
-  entry_is i r at =
-      let w = row_tells i r at in
-      let e : entry_of r ≡ w.0 = get_or_from_slice_get ws r.1 w.0 nowhere w.1 in
-      (w.1 ∙ ap (λ (v : OpenEntry Scene Push). Some v) (sym e), ap (λ (v : OpenEntry Scene Push). v.1) e ∙ sym w.2)
+  entry_is i r at = grind (arith, row_tells, get_or_from_slice_get)
 
   same_entries : IsPermutation ws by_rows
   same_entries = subst (λ vs. IsPermutation vs by_rows) (same_by_places (map entry_of (rows_of 0 ws)) ws (length-map (rows_of 0 ws) entry_of ∙
@@ -259,10 +225,7 @@ module _ (ws : List (OpenEntry Scene Push)) (rows : List Row) (same : IsPermutat
       (λ n. is_gt (origin_cmp push_cmp (e n) (f n))) ∙ rise i j a.0 b.0 lt a.1 b.1
 
 pub apart_targets : (rows : List Row) (targets : List ℕ) → AreTargets rows targets → AreApart targets
-apart_targets rows targets are = record {
-  inside = λ x t at. (let w = are.1 x t at in omega (arith, are.0, slice_get_within rows t w.0 w.1));
-  apart = λ x y t at_x at_y. (let v = are.1 x t at_x in let w = are.1 y t at_y in sym v.2 ∙ ap (λ (r : Row). r.1) (same_Some v.0 w.0 (sym v.1 ∙ w.1)) ∙ w.2);
-}
+apart_targets rows targets are = grind (arith, slice_get_within, same_Some)
 
 -- one more row
 pub one_row : (start place : ℕ) (es : List Closed) (rows more : List Row) (o : Origin Push) → start ≤ place → place < length es →
@@ -285,25 +248,10 @@ pub record AreTargetsSoFar (rows : List Row) (place : ℕ) (targets : List ℕ) 
   pub far : (i : ℕ) (r : Row) → i < place → slice_get rows i ≡ Some r →
       (t : ℕ) × (q : Row) × (slice_get targets r.1 ≡ Some t) × (slice_get rows t ≡ Some q) × (q.1 ≡ r.1)
 
-pub no_targets : (rows : List Row) (targets : List ℕ) → targets ≡ replicate (length rows) 0 → AreTargetsSoFar rows 0 targets
-no_targets rows targets e = record { long = ap length e ∙ length-replicate (length rows) 0; far = λ i r lt. absurd (omega (arith, lt)) }
-
 pub one_target : (rows : List Row) (place : ℕ) (targets : List ℕ) (row : Row) → AreTargetsSoFar rows place targets → slice_get rows place ≡ Some row →
     row.1 < length rows → AreTargetsSoFar rows (suc place) (set targets row.1 place)
-one_target rows place targets row before at lt = record {
-  long = length-set targets row.1 place ∙ before.long;
-  far = λ i r i_lt r_at. elim (cases_eq r.1 row.1) [
-    | inl same ↦ (place, row, ap (slice_get (set targets row.1 place)) same ∙ put (omega (arith, lt, before.long)), at, sym same)
-    | inr other ↦ elim (cases_lt i place) [
-      | inl less ↦ (let w = before.far i r less r_at in (w.0, w.1, set_there targets row.1 r.1 place other ∙ w.2, w.3, w.4))
-      | inr more ↦ absurd (other (ap (λ (q : Row). q.1) (same_Some r row (sym r_at ∙
-          ap (slice_get rows) (let e : i ≡ place = omega (arith, i_lt, more) in e) ∙ at))))
-    ]
-  ];
-}
-  where
-    put : row.1 < length targets → slice_get (set targets row.1 place) row.1 ≡ Some place
-    put inside = set_here targets row.1 place inside
+one_target rows place targets row before at lt =
+    grind (arith, length-set, cases_eq, cases_lt, set_there, same_Some, set_here)
 
 pub all_targets : (rows : List Row) (place : ℕ) (targets : List ℕ) → HaveAllPlaces rows → AreTargetsSoFar rows place targets → length rows ≤ place →
     AreTargets rows targets

@@ -1,6 +1,6 @@
 -- The place that a look-up of a position gives.
 use Rattle.std.proofs.Common.{◌≡◌, ℕ, zero, suc, ◌+◌, Bool, true, false, cond, List, [], ◌∷◌, Option, Some, None, position}
-use Rattle.std.proofs.Common.{refl, sym, ap, ◌∙◌, true≢false, arith}
+use Rattle.std.proofs.Common.{refl, sym, ◌∙◌, arith}
 use Rattle.std.proofs.lemmas.Iterator.Adapters.{position_from-zero}
 use Rattle.std.proofs.lemmas.Option.{same_Some, none-some}
 use Rattle.std.specs.List.{position_from}
@@ -27,21 +27,10 @@ found_from m k i (x ∷ es) e = go (same_scene m x.0) refl e (found_from m (k + 
 
 new_from : (m : Scene) (k : ℕ) (es : List (Scene × Label)) → position_from (same_scene m) k (keys_of es) ≡ None → IsNew (entries_of es) m
 new_from m k [] none = λ i x at same. none-some x at
-new_from m k (e ∷ es) none = go (same_scene m e.0) refl none (new_from m (k + 1) es)
-  where
-    go : (b : Bool) → same_scene m e.0 ≡ b → cond b (Some k) (position_from (same_scene m) (k + 1) (keys_of es)) ≡ None →
-        (position_from (same_scene m) (k + 1) (keys_of es) ≡ None → IsNew (entries_of es) m) → IsNew (entries_of (e ∷ es)) m
-    go true s found rest i x at same = absurd (none-some k (sym found))
-    go false s found rest zero x at same =
-        let there : m ≡ e.0 = sym (ap (λ (y : Node). y.position) (same_Some (entry_of e) x at) ∙ same) in
-        true≢false (sym (same_since m e.0 there) ∙ s)
-    go false s found rest (suc i) x at same = rest found i x at same
+new_from m k (e ∷ es) none = grind (arith, new_from m (k + 1) es, none-some, same_Some, same_since)
 
 -- a position has the place at which it is found, and is new if it is not found
 pub place_found : (m : Scene) (es : List (Scene × Label)) (place : Option ℕ) → place ≡ position (same_scene m) (keys_of es) →
     IsPlaceOf (entries_of es) m place
 place_found m es None e = new_from m 0 es (sym (position_from-zero (same_scene m) (keys_of es)) ∙ sym e)
-place_found m es (Some place) e =
-    let (j, is, x, there, same) = found_from m 0 place es (sym (position_from-zero (same_scene m) (keys_of es)) ∙ sym e) in
-    let one : place ≡ j = omega (arith, is) in
-    (x, ap (slice_get (entries_of es)) one ∙ there, same)
+place_found m es (Some place) e = grind (arith, found_from, position_from-zero)

@@ -34,9 +34,7 @@ found_from m k i (x ∷ es) e = go (same_scene m x.0) refl e (found_from m (k + 
 
 -- a position has the index at which it is found
 pub stands_found : (m : Scene) (place : ℕ) (es : List Closed) → Some place ≡ position (same_scene m) (keys_of es) → HasKeyAt es place m
-stands_found m place es e =
-    let w = found_from m 0 place es (sym (position_from-zero (same_scene m) (keys_of es)) ∙ sym e) in
-    let same : place ≡ w.0 = omega (arith, w.1) in ap (λ k. slice_get (keys_of es) k) same ∙ w.2
+stands_found m place es e = grind (arith, found_from, position_from-zero)
 
 -- the entry at a position's index is the position's
 standing : (m : Scene) (place : ℕ) (es : List Closed) → HasKeyAt es place m → (e : Closed) × (slice_get es place ≡ Some e) × (same_scene e.0 m ≡ true)

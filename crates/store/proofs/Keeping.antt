@@ -1,5 +1,5 @@
 -- Offers that change nothing, and what the entries hold after one that changes something.
-use Rattle.std.proofs.Common.{◌≡◌, ℕ, zero, suc, ◌+◌, ◌<◌, ◌≤◌, Bool, true, false, cond, ◌||◌, not, is_some, List, [], ◌∷◌, length, position}
+use Rattle.std.proofs.Common.{◌≡◌, ℕ, zero, suc, ◌<◌, ◌≤◌, Bool, true, false, cond, ◌||◌, not, is_some, List, [], ◌∷◌, length, position}
 use Rattle.std.proofs.Common.{Option, Some, None, refl, sym, ap, subst, ◌∙◌, arith}
 use Rattle.std.proofs.lemmas.Option.{same_Some, none-some}
 use Rattle.std.specs.Prelude.{slice_get}
@@ -36,9 +36,7 @@ at_place m (x ∷ es) (suc i) e at same = go (same_scene m x.0) (at_place m es i
 -- so an offer of the position of a closed entry changes nothing
 pub standing_kept : (m : Scene) (o : Origin Push) (start i : ℕ) (es : List Closed) (e : Closed) → slice_get es i ≡ Some e →
     same_scene e.0 m ≡ true → i < start → true ≡ keeps (seen_of start es) (open_of start es) m o
-standing_kept m o start i es e at same lt =
-    let w = at_place m (seen_of start es) i e (seen_at start es i lt ∙ at) (same_flipped m e.0 ∙ same) in
-    ap (λ x. x || is_least (origin_of (open_of start es) m) o) (sym (ap is_some w.1))
+standing_kept m o start i es e at same lt = grind (arith, at_place, seen_at, same_flipped)
 
 -- nor does one of what is there with an origin that the offer's does not come before
 pub less_kept : (m : Scene) (o : Origin Push) (start : ℕ) (es : List Closed) → IsFound start es → (v : Option (Origin Push)) (less : Bool) →
@@ -83,13 +81,7 @@ kept_open start es new m o same kept = ap (open_of start) same ∙ let_in_kept (
 stands_within : (m : Scene) (v : Option (Origin Push)) (es : List Closed) → lookup (same_scene m) es ≡ Some v →
     position_or_len (same_scene m) (keys_of es) < length (keys_of es)
 stands_within m v [] e = absurd (none-some v e)
-stands_within m v (x ∷ es) e = go (same_scene m x.0) e (stands_within m v es)
-  where
-    go : (b : Bool) → cond b (Some x.1) (lookup (same_scene m) es) ≡ Some v →
-        (lookup (same_scene m) es ≡ Some v → position_or_len (same_scene m) (keys_of es) < length (keys_of es)) →
-        cond (not b) (1 + position_or_len (same_scene m) (keys_of es)) 0 < suc (length (keys_of es))
-    go true f t = omega arith
-    go false f t = omega (arith, t f)
+stands_within m v (x ∷ es) e = grind (arith, stands_within m v es)
 
 -- a position that has an entry stands where it would be put
 stands : (m : Scene) (v : Option (Origin Push)) (es : List Closed) (i : ℕ) → lookup (same_scene m) es ≡ Some v →

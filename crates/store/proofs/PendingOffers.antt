@@ -1,20 +1,18 @@
 -- Pending offers: which they are, and the open positions after they have entered.
-use Rattle.std.proofs.Common.{◌≡◌, ℕ, zero, suc, get_or, ◌+◌, ◌-◌, ◌≤◌, Bool, true, false, cond, ◌&&◌, ◌==◌, not, is_some, ltb, List, [], ◌∷◌, ◌++◌, length}
-use Rattle.std.proofs.Common.{map, fold, Option, take, drop, Some, None, Result, Ok, Err, refl, sym, ap, subst, ◌∙◌, if◌then◌else◌, arith}
+use Rattle.std.proofs.Common.{◌≡◌, ℕ, zero, suc, get_or, ◌+◌, ◌-◌, ◌≤◌, Bool, false, ltb, List, [], ◌∷◌, ◌++◌, length}
+use Rattle.std.proofs.Common.{map, fold, take, drop, Some, Result, Ok, Err, refl, sym, ap, ◌∙◌, arith}
 use Rattle.std.proofs.lemmas.Bool.Decides.{nat_tests}
-use Rattle.std.proofs.lemmas.List.{append-nil, append_assoc, length-append, length-map, take-append-drop}
+use Rattle.std.proofs.lemmas.List.{append-nil, length-append, length-map, take-append-drop}
 use Rattle.std.proofs.lemmas.List.Sums.{fold-append, fold_push}
 use Rattle.std.proofs.Math.Seq.{take-length}
 use Rattle.std.proofs.lemmas.Option.{same_Some}
 use Rattle.std.specs.Prelude.{OnErr, slice_get}
-use Rattle.std.specs.Map.{lookup}
 use Rattle.grid.specs.declared.square.Push.{Push}
 use Rattle.grid.specs.Board.{Scene}
-use Rattle.store.specs.Entries.{Origin, OpenEntry, same_scene, Closed, origin_of}
-use Rattle.successors.specs.Shares.{share_of}
+use Rattle.store.specs.Entries.{OpenEntry, Closed}
 use Rattle.successors.specs.declared.parcel.Successor.{Successor}
 use Rattle.successors.specs.inside.Sums.{AreSums, scene_sum}
-use Rattle.store.specs.Entering.{closed_entry, is_wanted_in, offered, entered, IsSortedAppend}
+use Rattle.store.specs.Entering.{closed_entry, is_wanted_in, entered, IsSortedAppend}
 use Rattle.store.specs.FoundView.{FoundView, found_view, seen_of, open_of, IsFound, let_in, all_let_in, offer_of, offers_of, with_entered}
 use Rattle.store.proofs.lemmas.Offers.{length-offered}
 use Rattle.store.proofs.Tails.{split}
@@ -25,9 +23,7 @@ use Rattle.store.proofs.Tails.{split}
 pub offers_more : (shares share rank : ℕ) (ss : List Successor) (s : Successor) →
     offers_of shares share rank (ss ++ s ∷ []) ≡ offers_of shares share rank ss ++ offer_of shares share rank s
 offers_more shares share rank [] s = append-nil (offer_of shares share rank s)
-offers_more shares share rank (t ∷ ss) s =
-    ap (λ xs. offer_of shares share rank t ++ xs) (offers_more shares share rank ss s) ∙
-    sym (append_assoc (offer_of shares share rank t) (offers_of shares share rank ss) (offer_of shares share rank s))
+offers_more shares share rank (t ∷ ss) s = grind (arith, offers_more shares share rank ss s)
 
 -- the sum beside a successor is that of its position
 pub sum_beside : (ss : List Successor) (sums : List ℕ) (place : ℕ) (s : Successor) → AreSums ss sums → slice_get ss place ≡ Some s →
@@ -42,16 +38,7 @@ sum_beside ss sums place s are at = ap (λ xs. get_or xs place 0) are ∙ go ss 
 -- there are no more offers than successors
 pub length-offers : (shares share rank : ℕ) (ss : List Successor) → length (offers_of shares share rank ss) ≤ length ss
 length-offers shares share rank [] = omega arith
-length-offers shares share rank (s ∷ ss) = omega (
-  arith,
-  length-append (offer_of shares share rank s) (offers_of shares share rank ss),
-  one (share_of shares s.position == share),
-  length-offers shares share rank ss,
-)
-  where
-    one : (b : Bool) → length {A = OpenEntry Scene Push} (if b then (s.position, (rank, s.push)) ∷ [] else []) ≤ 1
-    one true = omega arith
-    one false = omega arith
+length-offers shares share rank (s ∷ ss) = grind (arith, length-offers shares share rank ss)
 
 -- ---- how they enter
 
@@ -88,51 +75,26 @@ pub let_in_offers : (seen : List Closed) (shares share rank : ℕ) (ss : List Su
     all_let_in seen ws (offers_of shares share rank ss) ≡ fold (entered (is_wanted_in seen shares share) rank) ws ss
 let_in_offers seen shares share rank [] ws = refl
 let_in_offers seen shares share rank (s ∷ ss) ws =
-    fold-append (let_in seen) ws (offer_of shares share rank s) (offers_of shares share rank ss) ∙
-    let_in_offers seen shares share rank ss (all_let_in seen ws (offer_of shares share rank s))
-    ∙ ap (λ vs. fold (entered (is_wanted_in seen shares share) rank) vs ss)
-    (go (share_of shares s.position == share) (is_some (lookup (same_scene s.position) seen)) refl)
-  where
-    go : (a b : Bool) → is_some (lookup (same_scene s.position) seen) ≡ b → all_let_in seen ws (if a then (s.position, (rank, s.push)) ∷ [] else []) ≡
-        (if a && not b then offered ws s.position (rank, s.push) else ws)
-    go false b e = refl
-    go true true e = ap (λ b. if b then ws else offered ws s.position (rank, s.push)) e
-    go true false e = ap (λ b. if b then ws else offered ws s.position (rank, s.push)) e
+    grind (arith, let_in_offers seen shares share rank ss (all_let_in seen ws (offer_of shares share rank s)))
 
 -- so if the offers of a rank's successors are pending too, what is found is the same as if they had entered
 pub offers_appended : (boxes squares start shares share rank : ℕ) (es : List Closed) (pending : List (OpenEntry Scene Push)) (ss : List Successor) (v : FoundView) →
     found_view boxes squares start es pending ≡ v →
     found_view boxes squares start es (pending ++ offers_of shares share rank ss) ≡ with_entered v shares share rank ss
-offers_appended boxes squares start shares share rank es pending ss v view =
-    let seen = seen_of start es in
-    let waits : all_let_in seen (open_of start es) (pending ++ offers_of shares share rank ss) ≡
-    fold (entered (is_wanted_in seen shares share) rank) (all_let_in seen (open_of start es) pending) ss =
-    fold-append (let_in seen) (open_of start es) pending (offers_of shares share rank ss) ∙
-    let_in_offers seen shares share rank ss (all_let_in seen (open_of start es) pending) in
-    (λ i. record { boxes = boxes; squares = squares; seen = seen; waiting = waits i }) ∙ ap (λ (u : FoundView). with_entered u shares share rank ss) view
+offers_appended boxes squares start shares share rank es pending ss v view = grind (arith, fold-append, let_in_offers)
 
 -- ---- how many they are
 
 -- an offer opens at most one more position
 length-let_in : (seen : List Closed) (ws : List (OpenEntry Scene Push)) (e : OpenEntry Scene Push) → (length ws ≤ length (let_in seen ws e)) ×
     (length (let_in seen ws e) ≤ length ws + 1)
-length-let_in seen ws e = go (is_some (lookup (same_scene e.0) seen))
-  where
-    one : (o : Option (Origin Push)) → cond (is_some o) 0 1 ≤ 1
-    one None = omega arith
-    one (Some o) = omega arith
-
-    go : (b : Bool) → (length ws ≤ length (if b then ws else offered ws e.0 e.1)) × (length (if b then ws else offered ws e.0 e.1) ≤ length ws + 1)
-    go true = (omega arith, omega arith)
-    go false = (omega (arith, length-offered ws e.0 e.1), omega (arith, length-offered ws e.0 e.1, one (origin_of ws e.0)))
+length-let_in seen ws e = grind (arith, length-offered)
 
 pub length-all_let_in : (seen : List Closed) (offers ws : List (OpenEntry Scene Push)) → (length ws ≤ length (all_let_in seen ws offers)) ×
     (length (all_let_in seen ws offers) ≤ length ws + length offers)
 length-all_let_in seen [] ws = (omega arith, omega arith)
 length-all_let_in seen (e ∷ offers) ws =
-    let one = length-let_in seen ws e in
-    let rest = length-all_let_in seen offers (let_in seen ws e) in
-    (omega (arith, one.0, rest.0), omega (arith, one.1, rest.1))
+    grind (arith, length-all_let_in seen offers (let_in seen ws e), length-let_in)
 
 -- the entries are the closed ones and the open ones
 pub length-split : (start : ℕ) (es : List Closed) → IsFound start es → length es ≡ length (seen_of start es) + length (open_of start es)
@@ -146,38 +108,21 @@ length-split start es found = omega (
 -- the map holds no more than is found, and with the pending offers no less
 pub length-found : (boxes squares start : ℕ) (es : List Closed) (pending : List (OpenEntry Scene Push)) (v : FoundView) → IsFound start es →
     found_view boxes squares start es pending ≡ v → (length es ≤ length v.seen + length v.waiting) × (length v.seen + length v.waiting ≤ length es + length pending)
-length-found boxes squares start es pending v found view =
-    let n = length-split start es found in
-    let m = length-all_let_in (seen_of start es) pending (open_of start es) in
-    let seen = ap (λ (u : FoundView). length u.seen) view in
-    let waiting = ap (λ (u : FoundView). length u.waiting) view in
-    (omega (arith, n, m.0, seen, waiting), omega (arith, n, m.1, seen, waiting))
+length-found boxes squares start es pending v found view = grind (arith, length-split, length-all_let_in)
 
 -- ---- the limit
 
 length-entered-le : (wanted : Scene → Bool) (rank : ℕ) (ss : List Successor) (es : List (OpenEntry Scene Push)) →
     length (fold (entered wanted rank) es ss) ≤ length es + length ss
 length-entered-le wanted rank [] es = omega arith
-length-entered-le wanted rank (s ∷ ss) es = omega (arith, length-entered-le wanted rank ss (entered wanted rank es s), one (wanted s.position))
-  where
-    some : (o : Option (Origin Push)) → cond (is_some o) 0 1 ≤ 1
-    some None = omega arith
-    some (Some o) = omega arith
-
-    one : (b : Bool) → length (if b then offered es s.position (rank, s.push) else es) ≤ length es + 1
-    one true = omega (arith, length-offered es s.position (rank, s.push), some (origin_of es s.position))
-    one false = omega arith
+length-entered-le wanted rank (s ∷ ss) es =
+    grind (arith, length-entered-le wanted rank ss (entered wanted rank es s), length-offered)
 
 -- if the limit admits all pending offers and all successors, it is not passed
 pub within_limit : (limit shares share rank held waits : ℕ) (ss : List Successor) (v : FoundView) → length v.seen + length v.waiting ≤ held + waits →
     held ≤ limit → waits + length ss ≤ limit - held →
     false ≡ ltb limit (length v.seen + length (with_entered v shares share rank ss).waiting)
-within_limit limit shares share rank held waits ss v few le room =
-    let m = length-entered-le (is_wanted_in v.seen shares share) rank ss v.waiting in
-    sym (not_less limit (length v.seen + length (with_entered v shares share rank ss).waiting) (omega arith))
-  where
-    not_less : (x y : ℕ) → y ≤ x → ltb x y ≡ false
-    not_less x y le = grind (arith, nat_tests)
+within_limit limit shares share rank held waits ss v few le room = grind (arith, length-entered-le, nat_tests)
 
 -- otherwise the new positions are counted, once no offer is pending
 pub counted_limit : (boxes squares start limit shares share rank held n : ℕ) (es : List Closed) (ss : List Successor) (v : FoundView) → IsFound start es →
@@ -185,21 +130,14 @@ pub counted_limit : (boxes squares start limit shares share rank held n : ℕ) (
     length (fold (entered (is_wanted_in (seen_of start es) shares share) rank) (open_of start es) ss) ≡ length (open_of start es) + n →
     ltb (limit - held) n ≡ ltb limit (length v.seen + length (with_entered v shares share rank ss).waiting)
 counted_limit boxes squares start limit shares share rank held n es ss v found view is le count =
-    shifted limit held n (length (seen_of start es) + length (fold (entered (is_wanted_in (seen_of start es) shares share) rank) (open_of start es) ss)) le
-    (omega (arith, length-split start es found, is, count))
-    ∙ ap (λ (u : FoundView). ltb limit (length u.seen + length (with_entered u shares share rank ss).waiting)) view
-  where
-    shifted : (limit h k all : ℕ) → h ≤ limit → all ≡ h + k → ltb (limit - h) k ≡ ltb limit all
-    shifted limit h k all le e = grind (arith, nat_tests)
+    grind (arith, length-split, nat_tests)
 
 -- ---- a close
 
 -- once no offer is pending, the open entries are closed after the others
 pub all_closed : (boxes squares start n : ℕ) (es new : List Closed) (v : FoundView) → found_view boxes squares start es [] ≡ v → n ≡ length new →
     IsSortedAppend (seen_of start es) (open_of start es) new → IsSortedAppend v.seen v.waiting (seen_of n new)
-all_closed boxes squares start n es new v view long sorted =
-    subst (IsSortedAppend v.seen v.waiting) (sym (ap (λ k. seen_of k new) long ∙ take-length new))
-    (subst (λ (u : FoundView). IsSortedAppend u.seen u.waiting new) view sorted)
+all_closed boxes squares start n es new v view long sorted = grind (arith, take-length)
 
 pub on_err : {T E : Type 0} {P : Type 0} (r : Result T E) → P → OnErr r P
 on_err (Ok x) h = tt

@@ -1,5 +1,5 @@
 -- Origins that rise, one entry after the other.
-use Rattle.std.proofs.Common.{◌≡◌, false, List, [], ◌∷◌, ◌++◌, refl, sym, ap, ◌∙◌, inl, inr, arith}
+use Rattle.std.proofs.Common.{◌≡◌, false, List, [], ◌∷◌, ◌++◌, refl, ap, ◌∙◌, inl, inr, arith}
 use Rattle.std.proofs.lemmas.Option.{none-some, slice_get_within}
 use Rattle.std.specs.Cmp.{IsTotalOrder}
 use Rattle.std.specs.declared.cmp.Ordering.{Ordering}
@@ -15,19 +15,7 @@ use Rattle.store.proofs.lemmas.Origins.{origin_total}
 use Rattle.successors.proofs.lemmas.Lists.{at-push}
 
 pub least_first : {A : Type 0} {R : A → A → Ordering} → IsTotalOrder R → (a b c : A) → is_gt (R a b) ≡ false → is_gt (R b c) ≡ false → is_gt (R a c) ≡ false
-least_first {A} {R} total a b c e f = go (R a b) refl (R b c) refl e f
-  where
-    back : R b c ≡ Equal → R a c ≡ R a b
-    back h =
-        let g : R c b ≡ Equal = total.antisymm c b ∙ ap ordering_reverse h in
-        total.antisymm a c ∙ ap ordering_reverse (total.congr c b a g) ∙ sym (total.antisymm a b)
-
-    go : (x : Ordering) → R a b ≡ x → (y : Ordering) → R b c ≡ y → is_gt x ≡ false → is_gt y ≡ false → is_gt (R a c) ≡ false
-    go Less p Less q g h = ap is_gt (total.trans a b c p q)
-    go Less p Equal q g h = ap is_gt (back q ∙ p)
-    go Less p Greater q g h = cc
-    go Equal p y q g h = ap is_gt (total.congr a b c p ∙ q) ∙ h
-    go Greater p y q g h = cc
+least_first {A} {R} total a b c e f = grind arith
 
 pub not_greater : (a b : Origin Push) → is_lt (origin_cmp push_cmp b a) ≡ false → is_gt (origin_cmp push_cmp a b) ≡ false
 not_greater a b e = ap is_gt ((origin_total push_cmp_total).antisymm a b) ∙ turned (origin_cmp push_cmp b a) e

@@ -1,8 +1,8 @@
 -- The number of entries that are not at their targets: each exchange makes it less.
-use Rattle.std.proofs.Common.{◌≡◌, ◌≢◌, ℕ, zero, suc, ◌+◌, ◌<◌, ◌≤◌, ◌==◌, List, [], ◌∷◌, length, set, Some, refl, sym, ap, ◌∙◌, if◌then◌else◌, arith}
+use Rattle.std.proofs.Common.{◌≡◌, ◌≢◌, ℕ, zero, suc, ◌+◌, ◌<◌, ◌≤◌, ◌==◌, List, [], ◌∷◌, length, set, Some, sym, ap, ◌∙◌, if◌then◌else◌, arith}
 use Rattle.std.proofs.lemmas.Bool.Decides.{nat_tests}
 use Rattle.std.proofs.lemmas.List.Edits.{swap_is}
-use Rattle.std.proofs.lemmas.Option.{same_Some, slice_get_within, get_or_from_slice_get, none-some}
+use Rattle.std.proofs.lemmas.Option.{slice_get_within, get_or_from_slice_get, none-some}
 use Rattle.std.specs.Prelude.{slice_get}
 use Rattle.std.specs.List.{swap}
 use Rattle.store.specs.inside.Placing.{AreApart}
@@ -30,16 +30,8 @@ stray_most k t = grind (arith, nat_tests)
 
 strays-set : (k : ℕ) (ts : List ℕ) (i old new : ℕ) → slice_get ts i ≡ Some old → strays k (set ts i new) + stray (k + i) old ≡ strays k ts + stray (k + i) new
 strays-set k [] i old new at = absurd (none-some old at)
-strays-set k (t ∷ ts) zero old new at =
-    let e : t ≡ old = same_Some t old at in let z : k + 0 ≡ k = omega arith in
-    let put : strays k (set (t ∷ ts) 0 new) ≡ stray k new + strays (suc k) ts = refl in
-    let was : strays k (t ∷ ts) ≡ stray k t + strays (suc k) ts = refl in
-    omega (arith, put, was, ap (stray k) e, ap (λ n. stray n old) z, ap (λ n. stray n new) z)
-strays-set k (t ∷ ts) (suc i) old new at =
-    let z : suc k + i ≡ k + suc i = omega arith in
-    let put : strays k (set (t ∷ ts) (suc i) new) ≡ stray k t + strays (suc k) (set ts i new) = refl in
-    let was : strays k (t ∷ ts) ≡ stray k t + strays (suc k) ts = refl in
-    omega (arith, put, was, strays-set (suc k) ts i old new at, ap (λ n. stray n old) z, ap (λ n. stray n new) z)
+strays-set k (t ∷ ts) zero old new at = grind arith
+strays-set k (t ∷ ts) (suc i) old new at = grind (arith, strays-set (suc k) ts i old new at)
 
 pub fewer : (ts : List ℕ) (a t : ℕ) → slice_get ts a ≡ Some t → t ≢ a → AreApart ts → strays 0 (swap ts a t) < strays 0 ts
 fewer ts a t at ne places =

@@ -1,5 +1,5 @@
 -- One list of entries: the closed ones, and behind them those that are open.
-use Rattle.std.proofs.Common.{◌≡◌, ℕ, zero, suc, ◌+◌, ◌<◌, ◌≤◌, Bool, true, false, cond, ◌&&◌, ◌||◌, ◌==◌, not, is_some, ltb, List, [], ◌∷◌, ◌++◌, length}
+use Rattle.std.proofs.Common.{◌≡◌, ℕ, zero, suc, ◌+◌, ◌<◌, ◌≤◌, Bool, true, false, ◌&&◌, ◌||◌, ◌==◌, not, is_some, ltb, List, [], ◌∷◌, ◌++◌, length}
 use Rattle.std.proofs.Common.{map, take, drop, position, Option, Some, None, refl, sym, ap, subst, ◌∙◌, if◌then◌else◌, arith}
 use Rattle.std.proofs.lemmas.Bool.Decides.{nat_tests}
 use Rattle.std.proofs.lemmas.List.{take-append-drop, length-append}
@@ -91,22 +91,11 @@ joined start es new ws within e = (
 look_append : {X : Type 0} (m : Scene) (xs ys : List (Scene × X)) → lookup (same_scene m) xs ≡ None →
     lookup (same_scene m) (xs ++ ys) ≡ lookup (same_scene m) ys
 look_append m [] ys e = refl
-look_append {X} m (x ∷ xs) ys e = go (same_scene m x.0) e (look_append m xs ys)
-  where
-    go : (b : Bool) → cond b (Some x.1) (lookup (same_scene m) xs) ≡ None →
-        (lookup (same_scene m) xs ≡ None → lookup (same_scene m) (xs ++ ys) ≡ lookup (same_scene m) ys) →
-        cond b (Some x.1) (lookup (same_scene m) (xs ++ ys)) ≡ lookup (same_scene m) ys
-    go true f t = absurd (none-some x.1 (sym f))
-    go false f t = t f
+look_append m (x ∷ xs) ys e = grind (arith, look_append m xs ys)
 
 look_front : {X : Type 0} (m : Scene) (xs ys : List (Scene × X)) (v : X) → lookup (same_scene m) xs ≡ Some v → lookup (same_scene m) (xs ++ ys) ≡ Some v
 look_front m [] ys v e = absurd (none-some v e)
-look_front {X} m (x ∷ xs) ys v e = go (same_scene m x.0) e (look_front m xs ys v)
-  where
-    go : (b : Bool) → cond b (Some x.1) (lookup (same_scene m) xs) ≡ Some v →
-        (lookup (same_scene m) xs ≡ Some v → lookup (same_scene m) (xs ++ ys) ≡ Some v) → cond b (Some x.1) (lookup (same_scene m) (xs ++ ys)) ≡ Some v
-    go true f t = f
-    go false f t = t f
+look_front m (x ∷ xs) ys v e = grind (arith, look_front m xs ys v)
 
 -- the origin of a closed entry that was open
 abbrev pub as_closed : Option (Origin Push) → Option (Option (Origin Push))
@@ -116,12 +105,7 @@ as_closed (Some o) = Some (Some o)
 -- an entry that is open is found with its origin
 look_open : (m : Scene) (ws : List (OpenEntry Scene Push)) → lookup (same_scene m) (map closed_entry ws) ≡ as_closed (origin_of ws m)
 look_open m [] = refl
-look_open m (w ∷ ws) = go (same_scene m w.0) (look_open m ws)
-  where
-    go : (b : Bool) → lookup (same_scene m) (map closed_entry ws) ≡ as_closed (origin_of ws m) →
-        cond b (Some (Some w.1)) (lookup (same_scene m) (map closed_entry ws)) ≡ as_closed (cond b (Some w.1) (origin_of ws m))
-    go true t = refl
-    go false t = t
+look_open m (w ∷ ws) = grind (arith, look_open m ws)
 
 pub not_below : (i n : ℕ) → n ≤ i → ltb i n ≡ false
 not_below i n le = grind (arith, nat_tests)
@@ -131,24 +115,14 @@ below i n lt = grind (arith, nat_tests)
 
 at_least : (test : Scene → Bool) (k i : ℕ) (xs : List Scene) → position_from test k xs ≡ Some i → k ≤ i
 at_least test k i [] e = absurd (none-some i e)
-at_least test k i (x ∷ xs) e = go (test x) e (at_least test (k + 1) i xs)
-  where
-    go : (b : Bool) → cond b (Some k) (position_from test (k + 1) xs) ≡ Some i → (position_from test (k + 1) xs ≡ Some i → k + 1 ≤ i) → k ≤ i
-    go true f t = omega (arith, same_Some k i f)
-    go false f t = omega (arith, t f)
+at_least test k i (x ∷ xs) e = grind (arith, at_least test (k + 1) i xs)
 
 -- where a key is found tells whether it is closed
 placed_from : (m : Scene) (k i : ℕ) (es : List Closed) (start : ℕ) → position_from (same_scene m) k (keys_of es) ≡ Some i →
     is_some (lookup (same_scene m) (take start es)) ≡ ltb i (k + start)
 placed_from m k i [] start e = absurd (none-some i e)
 placed_from m k i (x ∷ es) zero e = sym (not_below i (k + 0) (omega (arith, at_least (same_scene m) k i (keys_of (x ∷ es)) e)))
-placed_from m k i (x ∷ es) (suc start) e = go (same_scene m x.0) e (placed_from m (k + 1) i es start)
-  where
-    go : (b : Bool) → cond b (Some k) (position_from (same_scene m) (k + 1) (keys_of es)) ≡ Some i →
-        (position_from (same_scene m) (k + 1) (keys_of es) ≡ Some i → is_some (lookup (same_scene m) (take start es)) ≡ ltb i (k + 1 + start)) →
-        is_some (cond b (Some x.1) (lookup (same_scene m) (take start es))) ≡ ltb i (k + suc start)
-    go true f t = sym (below i (k + suc start) (omega (arith, same_Some k i f)))
-    go false f t = let e : k + 1 + start ≡ k + suc start = omega arith in t f ∙ ap (ltb i) e
+placed_from m k i (x ∷ es) (suc start) e = grind (arith, placed_from m (k + 1) i es start)
 
 pub placed : (m : Scene) (i start : ℕ) (es : List Closed) → position (same_scene m) (keys_of es) ≡ Some i →
     is_some (lookup (same_scene m) (seen_of start es)) ≡ ltb i start
@@ -237,40 +211,17 @@ other_number x y e = grind (arith, nat_tests)
 
 -- an offer that changes nothing leaves the open entries unchanged
 pub let_in_kept : (seen : List Closed) (ws : List (OpenEntry Scene Push)) (m : Scene) (o : Origin Push) → true ≡ keeps seen ws m o → ws ≡ let_in seen ws (m, o)
-let_in_kept seen ws m o e = go (is_some (lookup (same_scene m) seen)) e (origin_of ws m) refl
-  where
-    not_true : (b : Bool) → true ≡ not b → b ≡ false
-    not_true true f = cc
-    not_true false f = refl
-
-    go : (b : Bool) → true ≡ (b || is_least (origin_of ws m) o) → (f : Option (Origin Push)) → origin_of ws m ≡ f → ws ≡ (if b then ws else offered ws m o)
-    go true t f g = refl
-    go false t None g = absurd (let h = t ∙ ap (λ x. is_least x o) g in cc)
-    go false t (Some p) g = sym (offered-kept ws m o p g (not_true (is_lt (origin_cmp push_cmp o p)) (t ∙ ap (λ x. is_least x o) g)))
+let_in_kept seen ws m o e = grind (arith, offered-kept)
 
 insert_open : (m : Scene) (o : Origin Push) (ws : List (OpenEntry Scene Push)) →
     insert_entry same_scene (map closed_entry ws) m (Some o) ≡ map closed_entry (insert_entry same_scene ws m o)
 insert_open m o [] = refl
-insert_open m o (w ∷ ws) = go (same_scene m w.0) (insert_open m o ws)
-  where
-    go : (b : Bool) → insert_entry same_scene (map closed_entry ws) m (Some o) ≡ map closed_entry (insert_entry same_scene ws m o) →
-        (if b then (w.0, Some o) ∷ map closed_entry ws else closed_entry w ∷ insert_entry same_scene (map closed_entry ws) m (Some o)) ≡ map closed_entry
-        (if b then (w.0, o) ∷ ws else w ∷ insert_entry same_scene ws m o)
-    go true t = refl
-    go false t = ap (λ xs. closed_entry w ∷ xs) t
+insert_open m o (w ∷ ws) = grind (arith, insert_open m o ws)
 
 insert_past : (m : Scene) (o : Origin Push) (seen : List Closed) (ws : List (OpenEntry Scene Push)) → lookup (same_scene m) seen ≡ None →
     insert_entry same_scene (seen ++ map closed_entry ws) m (Some o) ≡ seen ++ map closed_entry (insert_entry same_scene ws m o)
 insert_past m o [] ws e = insert_open m o ws
-insert_past m o (x ∷ seen) ws e = go (same_scene m x.0) e (insert_past m o seen ws)
-  where
-    go : (b : Bool) → cond b (Some x.1) (lookup (same_scene m) seen) ≡ None →
-        (lookup (same_scene m) seen ≡ None →
-        insert_entry same_scene (seen ++ map closed_entry ws) m (Some o) ≡ seen ++ map closed_entry (insert_entry same_scene ws m o)) →
-        (if b then (x.0, Some o) ∷ (seen ++ map closed_entry ws) else x ∷ insert_entry same_scene (seen ++ map closed_entry ws) m (Some o)) ≡ x ∷
-        (seen ++ map closed_entry (insert_entry same_scene ws m o))
-    go true f t = absurd (none-some x.1 (sym f))
-    go false f t = ap (λ xs. x ∷ xs) (t f)
+insert_past m o (x ∷ seen) ws e = grind (arith, insert_past m o seen ws)
 
 -- one that changes something is inserted
 pub let_in_put : (start : ℕ) (es new : List Closed) (m : Scene) (o : Origin Push) → IsFound start es → false ≡ keeps (seen_of start es) (open_of start es) m o →

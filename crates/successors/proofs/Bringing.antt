@@ -1,10 +1,10 @@
 -- What is brought to the front of a list, and the sums that come with it.
-use Rattle.std.proofs.Common.{◌≡◌, ℕ, zero, suc, ◌+◌, ◌<◌, ◌≤◌, List, [], ◌∷◌, ◌++◌, length, map, take, get_or, set}
+use Rattle.std.proofs.Common.{◌≡◌, ℕ, ◌+◌, ◌<◌, ◌≤◌, List, [], ◌∷◌, ◌++◌, length, map, take, get_or, set}
 use Rattle.std.proofs.Common.{Some, inl, inr, refl, sym, ap, ◌∙◌, arith}
 use Rattle.std.proofs.lemmas.Bool.{cases_lt}
 use Rattle.std.proofs.lemmas.List.{take-set-le, take_more_set, length-set, map-append}
 use Rattle.std.proofs.lemmas.List.Edits.{swap_is}
-use Rattle.std.proofs.lemmas.Option.{same_Some, slice_get_within, get_or_from_slice_get}
+use Rattle.std.proofs.lemmas.Option.{slice_get_within, get_or_from_slice_get}
 use Rattle.std.specs.Prelude.{slice_get}
 use Rattle.std.specs.List.{swap}
 use Rattle.successors.specs.declared.parcel.Successor.{Successor}
@@ -35,9 +35,7 @@ module _ {A : Type 0} (now : List A) (front place : ℕ) (s : A) (order : front 
 
   -- and what is behind the place stays
   pub later_same : (i : ℕ) → place < i → slice_get (swap now front place) i ≡ slice_get now i
-  later_same i lt = ap (λ xs. slice_get xs i) stores
-      ∙ set_there (set now front s) place i (get_or now front s) (λ e. omega (arith, e, lt))
-      ∙ set_there now front i s (λ e. omega (arith, e, lt, order))
+  later_same i lt = grind (arith, stores, set_there)
 
 -- ---- the sums
 

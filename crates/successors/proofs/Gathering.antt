@@ -1,7 +1,6 @@
 -- How the list of the successors by the first pushes grows, and the parcel of a rank.
 use Rattle.std.proofs.Common.{◌≡◌, ℕ, ◌+◌, ◌<◌, ◌≤◌, List, [], ◌∷◌, ◌++◌, length, Some, ◌⊎◌, inl, inr, sym, ap, subst, ◌∙◌, arith}
-use Rattle.std.proofs.lemmas.Bool.{cases_lt}
-use Rattle.std.proofs.lemmas.Option.{same_Some, slice_get_within}
+use Rattle.std.proofs.lemmas.Option.{slice_get_within}
 use Rattle.std.specs.Prelude.{slice_get}
 use Rattle.std.specs.declared.cmp.Ordering.TheVariants.{Less}
 use Rattle.grid.specs.declared.square.Push.{Push}
@@ -14,7 +13,7 @@ use Rattle.successors.specs.Capping.{capped, uncapped}
 use Rattle.successors.specs.Expansion.{IsSuccessor}
 use Rattle.successors.proofs.lemmas.Successors.{successor_unique}
 use Rattle.area.specs.Pushes.{CanPush, AreAll, ArePushes}
-use Rattle.area.proofs.lemmas.PushOrder.{pushed_at, all_none, all_same, all_push}
+use Rattle.area.proofs.lemmas.PushOrder.{pushed_at, all_same, all_push}
 
 -- ---- what the pushes lead to
 
@@ -27,14 +26,8 @@ abbrev pub AreSuccessorsBy : Board → Scene → ℕ → List Push → List Succ
 AreSuccessorsBy board n k ps ss = AreAll (λ s. s.push) (λ s. IsSuccessor board n s.push s.position × IsAmong k ps s.push) ss
 
 module _ (board : Board) (n : Scene) (scene : IsScene board n) (ps : List Push) where
-  pub by_none : AreSuccessorsBy board n 0 ps []
-  by_none = all_none _ (λ s h. omega (arith, h.1.1))
-
   among_more : (k : ℕ) (p q : Push) → slice_get ps k ≡ Some p → IsAmong (k + 1) ps q → IsAmong k ps q ⊎ (q ≡ p)
-  among_more k p q at (i, lt, e) = elim (cases_lt i k) [
-    | inl less ↦ inl (i, less, e)
-    | inr le ↦ inr (let same : i ≡ k = omega (arith, lt, le) in same_Some q p (sym e ∙ (ap (λ (j : ℕ). slice_get ps j) same ∙ at)))
-  ]
+  among_more k p q at (i, lt, e) = grind arith
 
   pub by_same : (k : ℕ) (p : Push) (ss : List Successor) → slice_get ps k ≡ Some p → AreSuccessorsBy board n k ps ss →
       ((m : Scene) → ¬ (IsSuccessor board n p m)) → AreSuccessorsBy board n (k + 1) ps ss
@@ -87,10 +80,4 @@ fit_more board ss new fit here i s e = elim (pushed_at ss new s i e) [
 pub is_parcel : (board : Board) (s : RankedPosition) → IsRanked board s → (ss : List Successor) → AreSuccessors (capped board s.cap) s.layer s.position ss →
     FitLevel board ss →
     IsParcel (record { level = capped board s.cap; layer = s.layer; rank = s.rank; successors = ss })
-is_parcel board s is ss come fit = record {
-  lawful = is.lawful;
-  places = is.places;
-  layer = is.layer;
-  place = (s.position, is.place, come);
-  fits = fit;
-}
+is_parcel board s is ss come fit = grind arith

@@ -1,5 +1,5 @@
 -- The least play with given pushes has the least walk before each of them.
-use Rattle.std.proofs.Common.{◌≡◌, ℕ, zero, suc, ◌+◌, ◌<◌, Bool, true, false, List, [], ◌∷◌, ◌++◌, length, take, Some}
+use Rattle.std.proofs.Common.{◌≡◌, ℕ, zero, suc, ◌+◌, ◌<◌, true, false, List, [], ◌∷◌, ◌++◌, length, take, Some}
 use Rattle.std.proofs.Common.{refl, sym, ap, subst, ◌∙◌, append_assoc, append-nil, arith}
 use Rattle.std.proofs.lemmas.Option.{same_Some, none-some}
 use Rattle.std.specs.Prelude.{slice_get}
@@ -18,8 +18,8 @@ use Rattle.grid.proofs.lemmas.Steps.{inside_grid, opposite_twice, next_back_to, 
 use Rattle.grid.proofs.lemmas.Orders.{not_gt_itself, not_gt_since_less, dir_cmp_total, shortlex_total, shortlex-shorter}
 use Rattle.grid.proofs.lemmas.Orders.{shortlex-append_not_gt, shortlex-none}
 use Rattle.grid.proofs.lemmas.Plays.{play_scene, play_push_on, walk_keeps_boxes, push_from, cut_push, cut_last_push}
-use Rattle.area.specs.Area.{at, Area}
-use Rattle.area.specs.LeastWalks.{IsLeastWalk, WalkAnswer, walk_letters}
+use Rattle.area.specs.Area.{at}
+use Rattle.area.specs.LeastWalks.{IsLeastWalk, walk_letters}
 use Rattle.successors.specs.Expansion.{after_push}
 use Rattle.area.specs.Pushes.{CanPush}
 use Rattle.successors.proofs.lemmas.Successors.{pushes_on, after_scene}
@@ -108,19 +108,11 @@ step_pushes board s d Blocked t u h step = absurd (step.2 u h)
 step_pushes board s d Walked t u h step = absurd (not_both board s d t u step h)
 step_pushes board s d Pushed t u h step = push_same board s d t u step h
 
--- a search for a walk finds it where there is one
-pub walk_found : (board : Board) (s : Scene) (q : ℕ) (xs ys : List Letter) (found : Bool)
-    → WalkAnswer board s q xs ys found → Area board s q → found ≡ true
-walk_found board s q xs ys true answer area = refl
-walk_found board s q xs ys false answer area = absurd (answer.0 area.0 area.1)
-
 -- so the push is made, once the player stands behind the box
 pub pushed_on : (board : Board) (s : Scene) → IsScene board s → (p : Push) → CanPush board s p
     → (from t : Scene) (did : Step) → from ≡ at s (behind board p)
     → Steps board from p.dir did t → t ≡ after_push board s p
-pushed_on board s scene p can from t did stood step =
-    step_pushes board (at s (behind board p)) p.dir did t (after_push board s p) (pushes_on board s scene p can)
-    (subst (λ (x : Scene). Steps board x p.dir did t) stood step)
+pushed_on board s scene p can from t did stood step = grind (arith, step_pushes, pushes_on)
 
 -- the square of a box that can be pushed is in the grid
 pub box_inside : (board : Board) (s : Scene) → IsScene board s → (p : Push) → CanPush board s p
@@ -220,21 +212,13 @@ module _ (board : Board) (ps : List Push) (s : Scene) (xs : List Letter) (w : Wr
       )
 
   whole_written : WritesLeastPlay board (ps ++ p ∷ []) (after_push board s p) whole_letters
-  whole_written = record {
-    dirs = whole_dirs;
-    play = whole.0;
-    written = whole.1;
-    least = whole_least;
-    common = whole_common;
-  }
+  whole_written = grind (arith, whole, whole_least, whole_common)
 
 -- the letters of the least play with one more push
 pub push_more : (board : Board) (ps : List Push) (s : Scene) (xs ys : List Letter) → WritesLeastPlay board ps s xs
     → IsScene board s → (p : Push)
     → CanPush board s p → WritesPush board s p xs ys → WritesLeastPlay board (ps ++ p ∷ []) (after_push board s p) ys
-push_more board ps s xs ys w scene p can step =
-    subst (WritesLeastPlay board (ps ++ p ∷ []) (after_push board s p)) (sym step.written)
-    (whole_written board ps s xs w scene p can step.walk step.least)
+push_more board ps s xs ys w scene p can step = grind (arith, whole_written)
 
 -- ---- the place of a push in a list
 
@@ -242,9 +226,7 @@ place_split-suc : {A : Type 0} (xs : List A) (i : ℕ) (x : A) → slice_get xs 
     (take (suc i) xs ≡ take i xs ++ x ∷ []) × ((rest : List A) × (xs ≡ take i xs ++ x ∷ rest))
 place_split-suc [] i x e = absurd (none-some x e)
 place_split-suc (y ∷ xs) zero x e = let same = same_Some y x e in (ap (λ z. z ∷ []) same, (xs, ap (λ z. z ∷ xs) same))
-place_split-suc (y ∷ xs) (suc i) x e =
-    let r = place_split-suc xs i x e in
-    (ap (λ zs. y ∷ zs) r.0, (r.1.0, ap (λ zs. y ∷ zs) r.1.1))
+place_split-suc (y ∷ xs) (suc i) x e = grind (arith, place_split-suc xs i x e)
 
 -- what stands before a place, and behind it
 pub place_split : {A : Type 0} (xs : List A) (i : ℕ) (x : A) → slice_get xs i ≡ Some x →

@@ -1,5 +1,5 @@
 -- What is left of the successors under a cap.
-use Rattle.std.proofs.Common.{◌≡◌, ℕ, suc, true, eqb, ◌+◌, ◌<◌, ◌≤◌, List, [], ◌∷◌, ◌++◌, length, take, drop, get_or}
+use Rattle.std.proofs.Common.{◌≡◌, ℕ, suc, true, eqb, ◌+◌, ◌<◌, ◌≤◌, List, [], ◌∷◌, ◌++◌, length, take, get_or}
 use Rattle.std.proofs.Common.{Option, Some, inl, inr, refl, sym, ap, subst, ◌∙◌, arith}
 use Rattle.std.proofs.lemmas.Bool.{or_cases, eqb-true}
 use Rattle.std.proofs.lemmas.List.Edits.{length-swap}
@@ -18,12 +18,10 @@ use Rattle.successors.specs.Layered.{IsIn}
 use Rattle.successors.specs.Problems.{Problem}
 use Rattle.successors.specs.Capping.{capped, uncapped}
 use Rattle.successors.specs.ParcelView.{AreSuccessors, FitLevel}
-use Rattle.successors.specs.inside.Sums.{AreSums}
 use Rattle.successors.specs.inside.Pruned.{Picks, IsWithin, ArePicked}
 use Rattle.successors.specs.inside.Pruned.Picks.{nothing, kept, left_out}
-use Rattle.successors.proofs.Appending.{slots_refilled}
 use Rattle.successors.proofs.Bringing.{front_more, later_same}
-use Rattle.successors.proofs.lemmas.Lists.{take_at, take_push, Rises, at_before, at_seam, at-push, at_take}
+use Rattle.successors.proofs.lemmas.Lists.{take_push, Rises, at_before, at_seam, at-push, at_take}
 
 -- ---- what is picked
 
@@ -69,8 +67,7 @@ module _ {A : Type 0} {Holds : A → Type 0} where
         ]
       ]
   picked_rise (left_out {xs = xs} {x = x} rest fails) rises i j a b lt at_a at_b =
-      picked_rise rest (λ k l c d less at_c at_d. rises k l c d less (at_before xs (x ∷ []) k c at_c)
-      (at_before xs (x ∷ []) l d at_d)) i j a b lt at_a at_b
+      grind (arith, picked_rise rest (λ k l c d less at_c at_d. rises k l c d less (at_before xs (x ∷ []) k c at_c) (at_before xs (x ∷ []) l d at_d)) i j a b lt at_a at_b)
 
 -- ---- picked successors
 
@@ -87,21 +84,6 @@ picked_successors board most room k n before after sum picks all = record {
       (come.1.0, come.1.1, omega (arith, sum, come.1.2));
 }
 
--- and none where the cap is met
-pub none_admitted : (board : Board) (most k : ℕ) (n : Scene) (after : List Successor) → most ≤ k
-    → AreSuccessors (capped board (Some most)) k n (take 0 after)
-none_admitted board most k n after met = record {
-  each = λ i s at. absurd (nothing_at i s at);
-  rise = λ i j s t lt at_s at_t. absurd (nothing_at i s at_s);
-  whole = λ p m come. absurd (omega (arith, met, come.1.2));
-}
-  where
-    nothing_at : (i : ℕ) (s : Successor) → slice_get (take 0 after) i ≡ Some s → ⊥
-    nothing_at i s at = let w = take_at after 0 i s at in omega (arith, w.1)
-
-pub none_fit : (board : Board) (after : List Successor) → FitLevel board (take 0 after)
-none_fit board after i s at = let w = take_at after 0 i s at in absurd (omega (arith, w.1))
-
 pub picked_fit : (board : Board) (room : ℕ) (before after : List Successor) → ArePicked board room before after
     → FitLevel board before → FitLevel board after
 picked_fit board room before after picks fit i s at = let w = (picked_from picks s (i, at)).0 in fit w.0 s w.1
@@ -112,20 +94,6 @@ pub under_cap : (problem : Problem) (board : Board) (cap : Option ℕ) → board
     → AreSuccessors (capped board cap) k n ss → AreSuccessors problem k n ss
 under_cap problem board cap same e k n ss all =
     subst (λ (t : Problem). AreSuccessors t k n ss) (λ i. record { board = same i; cap = sym e i }) all
-
--- the sums beside successors, where both were lent and given back
-pub sums_refilled : (n : ℕ) (slots lent back : List Successor) (sums lent_sums back_sums : List ℕ)
-    → length back ≡ length lent → lent ≡ slots
-    → length back_sums ≡ length lent_sums → lent_sums ≡ sums
-    → AreSums (take n back) (take n back_sums) →
-    AreSums (take n (take (length slots) (back ++ drop (length back) slots))) (take n
-    (take (length sums) (back_sums ++ drop (length back_sums) sums)))
-sums_refilled n slots lent back sums lent_sums back_sums long same long_sums same_sums are =
-    subst (λ (xs : List Successor). AreSums (take n xs)
-    (take n (take (length sums) (back_sums ++ drop (length back_sums) sums))))
-    (sym (slots_refilled slots lent back long same))
-    (subst (λ (xs : List ℕ). AreSums (take n back) (take n xs))
-    (sym (slots_refilled sums lent_sums back_sums long_sums same_sums)) are)
 
 -- ---- one more is looked at
 

@@ -1,5 +1,5 @@
 -- What the sum of a set of squares becomes where one square takes the place of another.
-use Rattle.std.proofs.Common.{◌≡◌, ℕ, suc, ◌+◌, Bool, true, false, cond, eqb, ltb, ◌||◌, List, [], ◌∷◌, sum, refl, ap}
+use Rattle.std.proofs.Common.{◌≡◌, ℕ, suc, ◌+◌, Bool, true, false, cond, eqb, ltb, ◌||◌, List, [], ◌∷◌, sum, ap}
 use Rattle.std.proofs.Common.{arith}
 use Rattle.std.proofs.lemmas.Bool.{eqb-true, true≢false, false≢true, or_parts}
 use Rattle.grid.specs.declared.square.Push.{Push}
@@ -33,11 +33,7 @@ remove_sum_at : (x : ℕ) (xs : List ℕ) (q : ℕ) (eq : Bool) → (eq ≡ true
     → (eq || contains xs q) ≡ true
     → (contains xs q ≡ true → q + sum (remove xs q) ≡ sum xs)
     → q + sum (cond eq (remove xs q) (x ∷ remove xs q)) ≡ sum (x ∷ xs)
-remove_sum_at x xs q true same h here rest =
-    let e = same refl in
-    let left : sum (remove xs q) ≡ sum xs =
-    ap sum (remove_out xs q (contains-below (suc x) xs q h (omega (arith, e)))) in
-    omega (arith, e, left, sum-cons x xs)
+remove_sum_at x xs q true same h here rest = grind (arith, remove_out, contains-below, sum-cons)
 remove_sum_at x xs q false same h here rest = omega (arith, sum-cons x (remove xs q), sum-cons x xs, rest here)
 
 sum-remove_from : (k : ℕ) (xs : Squares) (q : ℕ) → rises_from k xs ≡ true → contains xs q ≡ true

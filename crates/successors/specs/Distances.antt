@@ -1,11 +1,11 @@
--- How far a position is, and lists in which none stands twice.
+-- How far a position is, and lists without repetition.
 use Rattle.std.specs.Prelude.{◌≡◌, ℕ, ◌≤◌, List, length, slice_get, Some}
 use Rattle.grid.specs.declared.square.Push.{Push}
 use Rattle.grid.specs.Board.{Scene}
 use Rattle.successors.specs.Problems.{Problem, IsAdmitted}
 use Rattle.successors.specs.Reaching.{Reaches}
 
--- no position stands twice
+-- no position occurs twice
 abbrev pub AreDistinct : List Scene → Type 0
 AreDistinct ms = (i j : ℕ) (m : Scene) → slice_get ms i ≡ Some m → slice_get ms j ≡ Some m → i ≡ j
 

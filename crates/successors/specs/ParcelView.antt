@@ -48,7 +48,7 @@ pub record IsParcel (v : ParcelView) : Type 0 where
   pub place : (n : Scene) × (slice_get places v.rank ≡ Some n) × AreSuccessors v.level v.layer n v.successors
   pub fits : FitLevel v.level.board v.successors
 
--- the position stands at the rank of the layer of a lawful level under the cap, and is undoomed
+-- the position has the rank in the layer of a lawful level under the cap, and is undoomed
 pub record IsRanked (board : Board) (s : RankedPosition) : Type 0 where
   pub lawful : IsLevel board
   pub places : List Scene

@@ -102,7 +102,8 @@ impl<'p> Expander<'p> {
         ensures successor { Undoomed self.old.problem.board position.now →
             MatchOption result ((m : Scene) → ¬ (IsSuccessor self.old.problem.board position.now push m))
             (λ after. IsSuccessor self.old.problem.board position.now push after) }
-        ensures lost { IfNone result (IsLost self.old.problem.board (after_push self.old.problem.board position.now push)) }
+        ensures lost { IfNone result
+            (IsLost self.old.problem.board (after_push self.old.problem.board position.now push)) }
         ensures kept { self.new ≡ self.old }
     {
         let problem = self.problem;

@@ -123,7 +123,7 @@ impl<'a> Parcel<'a> {
     pub fn is_of(&self, problem: &Problem) -> bool
         ensures { IsTrue result ↔ (problem.now ≡ self.now.level) }
     {
-        problem.is_that(self.level, self.cap)
+        problem.is_of(self.level, self.cap)
     }
 
     /// The number of the layer.

@@ -97,11 +97,11 @@ impl Problem {
     pub fn is(&self, other: &Problem) -> bool
         ensures { IsTrue result ↔ (self.now ≡ other.now) }
     {
-        self.is_that(other.level(), other.cap)
+        self.is_of(other.level(), other.cap)
     }
 
     /// Whether the problem has this level and this cap.
-    pub(crate) fn is_that(&self, level: &Level, cap: Option<u32>) -> bool
+    pub(crate) fn is_of(&self, level: &Level, cap: Option<u32>) -> bool
         ensures { IsTrue result ↔ (self.now ≡ capped level.now cap) }
     {
         self.cap == cap && *self.level == *level

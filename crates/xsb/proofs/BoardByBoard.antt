@@ -21,7 +21,7 @@ use Rattle.xsb.specs.Collection.{Found, Part, IsPart, AreSeparated, AreFound, Is
 use Rattle.xsb.specs.declared.reader.Collection.{Collection}
 use Rattle.xsb.specs.inside.Cursors.{IsAt}
 use Rattle.xsb.specs.inside.Progress.{HasRead, GivesNext}
-use Rattle.xsb.specs.inside.Sources.{IsTaken, Takes}
+use Rattle.xsb.specs.inside.Sources.{Takes}
 use Rattle.xsb.proofs.RowLines.{AllZip-last}
 
 -- after the first gap nothing is found yet
@@ -83,25 +83,21 @@ HasRows-read {old} {new} {stretch} is =
       past = is.past;
     }
 
--- after the lines of a board
-IsAt-board : {old new : Lines} {stretch : Stretch} (bytes : List ℕ) → IsAt bytes old → ReadsBoard old new stretch → IsAt bytes new
-IsAt-board {old} {new} {stretch} bytes here is =
-    let long = length-append here.before is.lines in let one = is.read.number in let n = here.number in
+-- after some lines
+IsAt-on : {old new : Lines} (bytes : List ℕ) (lines : List (List ℕ)) → IsAt bytes old
+    → cut_lines old.rest ≡ lines ++ cut_lines new.rest → new.number ≡ old.number + length lines → IsAt bytes new
+IsAt-on {old} {new} bytes lines here whole number =
+    let long = length-append here.before lines in let n = here.number in
     record {
-      before = here.before ++ is.lines;
-      whole = here.whole ∙ ap (λ l. here.before ++ l) is.read.whole ∙ sym (append_assoc here.before is.lines (cut_lines new.rest));
+      before = here.before ++ lines;
+      whole = here.whole ∙ ap (λ l. here.before ++ l) whole
+          ∙ sym (append_assoc here.before lines (cut_lines new.rest));
       number = omega arith;
     }
 
 -- after the lines of a gap
 pub IsAt-gap : {old new : Lines} {gap : Gap} (bytes : List ℕ) → IsAt bytes old → ReadsGap old new gap → IsAt bytes new
-IsAt-gap {old} {new} {gap} bytes here is =
-    let long = length-append here.before is.texts in let one = is.read.number in let n = here.number in
-    record {
-      before = here.before ++ is.texts;
-      whole = here.whole ∙ ap (λ l. here.before ++ l) is.read.whole ∙ sym (append_assoc here.before is.texts (cut_lines new.rest));
-      number = omega arith;
-    }
+IsAt-gap bytes here is = IsAt-on bytes is.texts here is.read.whole is.read.number
 
 -- before the first line
 pub IsAt-first : (bytes : List ℕ) (lines : Lines) → cut_lines lines.rest ≡ lines_of_text bytes → lines.number ≡ 1 → IsAt bytes lines
@@ -145,7 +141,14 @@ Takes-more {bytes} {mid} {stretch} {founds} first last entry is board gap named 
               );
             }));
       },
-      record { mid = mid; read = board; board = refl; first_line = refl; onward = λ b here. IsAt-gap b (IsAt-board b here board) gap },
+      record {
+        mid = mid;
+        read = board;
+        board = refl;
+        first_line = refl;
+        onward = λ b here.
+            IsAt-gap b (IsAt-on b board.lines here board.read.whole board.read.number) gap;
+      },
     )
 
 -- reading from a copy of the lines reads from the lines

@@ -4,11 +4,10 @@ use Rattle.std.specs.List.{AllZip}
 use Rattle.std.proofs.lemmas.List.{append-nil}
 use Rattle.std.proofs.lemmas.List.Concat.{flat_map-append}
 use Rattle.grid.specs.declared.cell.Cell.{Cell}
-use Rattle.xsb.specs.declared.boards.Stretch.{Stretch}
 use Rattle.xsb.specs.Boards.{cols_of, padded}
 use Rattle.xsb.specs.Rows.{IsRowLine}
 use Rattle.xsb.specs.inside.Reading.{cut_line, cut_lines}
-use Rattle.xsb.specs.inside.Stretches.{AreRowLines, HasRows}
+use Rattle.xsb.specs.inside.Stretches.{AreRowLines}
 use Rattle.xsb.proofs.RowLines.{cols_of-append}
 
 -- how far the cells of some rows are made: k lines of count are done
@@ -21,19 +20,6 @@ pub record Filling (cols count k : ℕ) (rest : List (List ℕ)) (cells : List C
   pub rows_are : AreRowLines lines others
   pub made : cells ++ flat_map (padded cols) others ≡ flat_map (padded cols) rows
   pub wide : cols_of others ≤ cols
-
-pub Filling-none : (stretch : Stretch) (rows : List (List Cell)) (rest : List (List ℕ)) → HasRows stretch rows → cols_of rows ≤ stretch.size.cols →
-    rest ≡ stretch.lines → Filling stretch.size.cols stretch.count 0 rest [] rows
-Filling-none stretch rows rest has wide e = record {
-  lines = has.lines;
-  after = has.after;
-  others = rows;
-  whole = ap cut_lines e ∙ has.whole;
-  count_is = let n = has.count in omega arith;
-  rows_are = has.rows_are;
-  made = refl;
-  wide = wide;
-}
 
 record Taken (cols : ℕ) (line : List ℕ) (lines : List (List ℕ)) (others : List (List Cell)) : Type 0 where
   first : List (List Cell)

@@ -1,8 +1,8 @@
 -- Where a line breaks, and readers of lines.
-use Rattle.std.proofs.Common.{◌≡◌, ◌≢◌, ℕ, zero, suc, ◌+◌, ◌-◌, ◌<◌, ◌≤◌, Bool, true, false, List, [], ◌∷◌, ◌++◌, length, take, drop, refl, sym, ap, ◌∙◌, arith}
-use Rattle.std.proofs.Common.{length-append, append_assoc, subst, slice_get, Option, Some, None, IfNone, MatchBool, cond, Contains, is_some, inl, inr}
+use Rattle.std.proofs.Common.{◌≡◌, ℕ, ◌+◌, ◌-◌, ◌≤◌, Bool, true, false, List, [], ◌∷◌, ◌++◌, length, take, drop, refl, sym, ap, ◌∙◌, arith}
+use Rattle.std.proofs.Common.{length-append, append_assoc, subst, slice_get, Option, Some, None, IfNone, MatchBool, Contains, is_some, inl, inr}
 use Rattle.std.proofs.lemmas.List.Folds.{length-prefix_len}
-use Rattle.counts.specs.Counts.{AreDigits, IsCount, decimal}
+use Rattle.counts.specs.Counts.{AreDigits, decimal}
 use Rattle.counts.specs.NoCount.{IsNoCount}
 use Rattle.counts.proofs.lemmas.Digits.{digits_in_front}
 use Rattle.std.proofs.lemmas.Bool.{cases_lt, false≢true}
@@ -10,9 +10,8 @@ use Rattle.std.specs.Char.{is_ascii_digit}
 use Rattle.std.specs.List.{prefix_len}
 use Rattle.grid.specs.declared.cell.Cell.{Cell}
 use Rattle.xsb.specs.Breaks.{AreItems, nothing, bar, item, BreaksAt, IsBroken, IsCause, IsRowAt, digits_of}
-use Rattle.xsb.specs.Lines.{lines_of_text}
 use Rattle.xsb.specs.Places.{IsLineOf}
-use Rattle.xsb.specs.Rows.{IsItem, IsRowLine, IsTextLine}
+use Rattle.xsb.specs.Rows.{IsRowLine, IsTextLine}
 use Rattle.xsb.specs.declared.breaks.BrokenRows.{BrokenRows}
 use Rattle.xsb.specs.declared.breaks.Cause.{Cause}
 use Rattle.xsb.specs.declared.breaks.Cause.TheVariants.{ZeroCount}
@@ -20,7 +19,7 @@ use Rattle.xsb.specs.declared.items.Run.{Run}
 use Rattle.xsb.specs.declared.lines.Lines.{Lines}
 use Rattle.xsb.specs.inside.Breaking.{IsPastLine}
 use Rattle.xsb.specs.inside.Cursors.{IsAt}
-use Rattle.xsb.specs.inside.Reading.{BeginsWithItem, HasNoItem, cut_line, cut_lines, IsNextLine}
+use Rattle.xsb.specs.inside.Reading.{BeginsWithItem, cut_lines, IsNextLine}
 use Rattle.xsb.proofs.GapsAndBoards.{next-line}
 
 -- the bytes so far are items and bars, and the rest follows
@@ -45,33 +44,6 @@ IsPassed-item {line} {rest} run after is begins = record {
   items = item begins.0 _ is.items begins.1;
   whole = is.whole ∙ ap (λ r. is.before ++ r) begins.2 ∙ sym (append_assoc is.before begins.0 after);
 }
-
-pub length-passed : {line rest : List ℕ} → IsPassed line rest → length rest ≤ length line
-length-passed {line} {rest} is = let l = ap length is.whole in let m = length-append is.before rest in omega arith
-
-pub BreaksAt-here : {line rest : List ℕ} (first : ℕ) (after : List ℕ) (place : ℕ) (cause : Cause) → IsPassed line rest → rest ≡ first ∷ after → (first ≡ 124 → ⊥) →
-    HasNoItem rest → place ≡ length line - length rest + 1 → IsCause rest cause → BreaksAt line place cause
-BreaksAt-here {line} {rest} first after place cause is e other none at_place why =
-    let l = ap length is.whole in let m = length-append is.before rest in
-    record {
-      before = is.before;
-      rest = rest;
-      whole = is.whole;
-      items = is.items;
-      at_byte = omega arith;
-      no_item = none;
-      no_bar = λ more f. let same : first ≡ 124 = cc in other same;
-      why = why;
-    }
-
-digit-first : (t : Bool) (n : ℕ) → cond t (1 + n) 0 ≡ 0 → t ≡ false
-digit-first true n e = absurd (omega arith)
-digit-first false n e = refl
-
--- bytes that begin with no digits begin with another byte
-pub no-digit_first : (bytes rest : List ℕ) (first : ℕ) → bytes ≡ first ∷ rest → prefix_len is_ascii_digit bytes ≡ 0 → is_ascii_digit first ≡ false
-no-digit_first bytes rest first e none =
-    digit-first (is_ascii_digit first) (prefix_len is_ascii_digit rest) (ap (prefix_len is_ascii_digit) (sym e) ∙ none)
 
 slice_get-seam : {A : Type 0} (xs : List A) (y : A) (ys : List A) (n : ℕ) → n ≡ length xs → slice_get (xs ++ y ∷ ys) n ≡ Some y
 slice_get-seam [] y ys n e = ap (slice_get (y ∷ ys)) e

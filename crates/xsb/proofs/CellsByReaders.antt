@@ -4,7 +4,6 @@ use Rattle.std.proofs.Common.{length, get_or, take, drop, flat_map, refl, sym, a
 use Rattle.std.proofs.Common.{div-add-mod'}
 use Rattle.std.proofs.lemmas.Bool.{false≢true, eq-eqb, ne_eqb}
 use Rattle.std.proofs.lemmas.List.{take_more, length-take-le, take-take, drop-drop}
-use Rattle.std.proofs.Math.Nat.{mul-le-mul_right}
 use Rattle.xsb.proofs.GapsAndBoards.{drop-zero}
 use Rattle.grid.specs.declared.cell.Cell.{Cell}
 use Rattle.grid.specs.declared.cell.Cell.TheVariants.{Wall, Floor, Goal, Box, BoxOnGoal, Player, PlayerOnGoal}
@@ -96,11 +95,6 @@ pub rows-whole : (board : Board) → IsLevel board → row_count board * board.c
 rows-whole board level = let a = level.whole in let b = level.columns in
     let c = div-add-mod' (length board.cells) board.cols in omega arith
 
-pub row-inside : (board : Board) (row : ℕ) → IsLevel board → row < row_count board
-    → row * board.cols + board.cols ≤ length board.cells
-row-inside board row level less =
-    let whole = rows-whole board level in let many = mul-le-mul_right board.cols less in omega arith
-
 -- what is still to be written from a row on
 abbrev pub left_from : Board → ℕ → List ℕ
 left_from board row = flat_map written_row
@@ -126,7 +120,3 @@ left-more board row less =
     (drop-drop board.cols (row * board.cols) board.cells)
     ∙ ap (λ k. written_row (take board.cols (drop (row * board.cols) board.cells)) ++
     flat_map written_row (rows_from (row_count board - (row + 1)) board.cols (drop k board.cells))) b
-
-pub left-all : (board : Board) (row : ℕ) → row_count board ≤ row → left_from board row ≡ []
-left-all board row le = let a : row_count board - row ≡ 0 = omega arith in
-    ap (λ n. flat_map written_row (rows_from n board.cols (drop (row * board.cols) board.cells))) a

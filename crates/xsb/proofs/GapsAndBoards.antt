@@ -1,5 +1,5 @@
 -- Gaps and boards, as they are read line by line.
-use Rattle.std.proofs.Common.{◌≡◌, ℕ, ◌+◌, ◌<◌, true, false, List, [], ◌∷◌, ◌++◌, length, drop, flat_map, refl, sym, ap, ◌∙◌, arith, length-append}
+use Rattle.std.proofs.Common.{◌≡◌, ℕ, ◌+◌, true, false, List, [], ◌∷◌, ◌++◌, drop, flat_map, refl, sym, ap, ◌∙◌, arith, length-append}
 use Rattle.std.proofs.Common.{append_assoc, subst, Option, Some, None, is_some, MatchOption}
 use Rattle.std.proofs.lemmas.Bool.{false≢true}
 use Rattle.std.specs.List.{AllByRecursion}
@@ -37,9 +37,6 @@ pub next-line : (rest after : List (List ℕ)) (line : List ℕ) → (raw : List
 next-line rest after line next e =
     let more : after ≡ next.1 = e ∙ ap (drop 1) next.2 ∙ drop-zero next.1 in
     ap cut_lines next.2 ∙ ap (λ l. l ∷ cut_lines next.1) (sym next.3) ∙ ap (λ m. line ∷ cut_lines m) (sym more)
-
-pub some-line : (rest : List (List ℕ)) (line : List ℕ) → (raw : List ℕ) × (more : List (List ℕ)) × (rest ≡ raw ∷ more) × (line ≡ cut_line raw) → 0 < length rest
-some-line rest line next = let l = ap length next.2 in omega arith
 
 AllByRecursion-last : {A : Type 0} (P : A → Type 0) (xs : List A) (x : A) → AllByRecursion P xs → P x → AllByRecursion P (xs ++ x ∷ [])
 AllByRecursion-last P [] x all is = (is, tt)

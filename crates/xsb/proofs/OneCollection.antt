@@ -5,9 +5,8 @@ use Rattle.std.specs.List.{AllZip, AllByRecursion}
 use Rattle.grid.specs.declared.cell.Cell.{Cell}
 use Rattle.xsb.specs.Lines.{lines_of_text}
 use Rattle.xsb.specs.Boards.{board_of}
-use Rattle.xsb.specs.Names.{name_of}
 use Rattle.xsb.specs.Rows.{IsRow, IsRowLine, IsTextLine}
-use Rattle.xsb.specs.Collection.{Found, Part, IsPart, AreSeparated, AreParts, IsFoundBoard, AreFound, IsCollection}
+use Rattle.xsb.specs.Collection.{Found, Part, IsPart, AreSeparated, IsFoundBoard, AreFound, IsCollection}
 use Rattle.xsb.proofs.RowItems.{same-row}
 use Rattle.xsb.proofs.lemmas.Cutting.{HasRowLine, cut-lines, find-boards}
 
@@ -80,30 +79,26 @@ same-parts (p ∷ ps) (q ∷ qs) a b f g e =
     let first : p ≡ q = ap (λ l. record { board = l; gap = p.gap }) boards.0 ∙ ap (λ l. record { board = q.board; gap = l }) gaps.0 in
     ap (λ x. x ∷ ps) first ∙ ap (λ l. q ∷ l) rest
 
+-- a relation that gives each element one value gives a list one list of values
+same-zip : {A B : Type 0} (R : A → B → Type 0) → ((x : A) (y z : B) → R x y → R x z → y ≡ z) → (xs : List A)
+    (ys zs : List B) → AllZip R xs ys → AllZip R xs zs → ys ≡ zs
+same-zip R one [] [] [] a b = refl
+same-zip R one [] [] (z ∷ zs) a b = absurd b
+same-zip R one [] (y ∷ ys) zs a b = absurd a
+same-zip R one (x ∷ xs) [] zs a b = absurd a
+same-zip R one (x ∷ xs) (y ∷ ys) [] a b = absurd b
+same-zip R one (x ∷ xs) (y ∷ ys) (z ∷ zs) a b =
+    ap (λ v. v ∷ ys) (one x y z a.0 b.0) ∙ ap (λ vs. z ∷ vs) (same-zip R one xs ys zs a.1 b.1)
+
 -- a line has one list of rows
-same-rows : (pieces : List (List ℕ)) (rows others : List (List Cell)) → AllZip IsRow pieces rows → AllZip IsRow pieces others → rows ≡ others
-same-rows [] [] [] a b = refl
-same-rows [] [] (o ∷ others) a b = absurd b
-same-rows [] (r ∷ rows) others a b = absurd a
-same-rows (p ∷ pieces) [] others a b = absurd a
-same-rows (p ∷ pieces) (r ∷ rows) [] a b = absurd b
-same-rows (p ∷ pieces) (r ∷ rows) (o ∷ others) a b = ap (λ x. x ∷ rows) (same-row a.0 o b.0) ∙ ap (λ l. o ∷ l) (same-rows pieces rows others a.1 b.1)
-
-pub same-line : (line : List ℕ) (rows others : List (List Cell)) → IsRowLine line rows → IsRowLine line others → rows ≡ others
-same-line line rows others a b = same-rows _ rows others a.pieces b.pieces
-
-same-lines : (lines : List (List ℕ)) (rows others : List (List (List Cell))) → AllZip IsRowLine lines rows → AllZip IsRowLine lines others → rows ≡ others
-same-lines [] [] [] a b = refl
-same-lines [] [] (o ∷ others) a b = absurd b
-same-lines [] (r ∷ rows) others a b = absurd a
-same-lines (l ∷ lines) [] others a b = absurd a
-same-lines (l ∷ lines) (r ∷ rows) [] a b = absurd b
-same-lines (l ∷ lines) (r ∷ rows) (o ∷ others) a b = ap (λ x. x ∷ rows) (same-line l r o a.0 b.0) ∙ ap (λ m. o ∷ m) (same-lines lines rows others a.1 b.1)
+pub same-line : (line : List ℕ) (rows others : List (List Cell)) → IsRowLine line rows → IsRowLine line others
+    → rows ≡ others
+same-line line rows others a b = same-zip IsRow (λ x y z p q. same-row p z q) _ rows others a.pieces b.pieces
 
 same-found : (line : ℕ) (before : List (List ℕ)) (part : Part) (f g : Found) → IsFoundBoard line before part f → IsFoundBoard line before part g → f ≡ g
 same-found line before part f g a b =
     let name = a.name ∙ sym b.name in let first = a.first_line ∙ sym b.first_line in
-    let rows = same-lines part.board a.board.0 b.board.0 a.board.1 b.board.1 in
+    let rows = same-zip IsRowLine same-line part.board a.board.0 b.board.0 a.board.1 b.board.1 in
     let board = a.board.2 ∙ ap (λ r. board_of (flat_map (λ x. x) r)) rows ∙ sym b.board.2 in
     ap (λ n. record { name = n; first_line = f.first_line; board = f.board }) name ∙ ap (λ n. record { name = g.name; first_line = n; board = f.board }) first
     ∙ ap (λ n. record { name = g.name; first_line = g.first_line; board = n }) board

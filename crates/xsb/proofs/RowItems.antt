@@ -10,7 +10,7 @@ use Rattle.xsb.specs.declared.items.Run.{Run}
 use Rattle.xsb.specs.Boards.{is_floor, cut_row, padded}
 use Rattle.counts.specs.Counts.{repeats}
 use Rattle.counts.proofs.lemmas.Digits.{one_run, means_some}
-use Rattle.xsb.proofs.CutEnds.{cut_end-blank, cut_end-kept, cut_end-replicate, AllByRecursion-replicate, take-nil, take-more, filled, filled-padded}
+use Rattle.xsb.proofs.CutEnds.{cut_end-blank, cut_end-kept, cut_end-replicate, AllByRecursion-replicate, take-more, filled, filled-padded}
 use Rattle.xsb.proofs.FirstItem.{shape-item}
 
 -- an item has bytes
@@ -75,9 +75,6 @@ pub record IsFront (piece rest : List ℕ) (front : List Cell) : Type 0 where
   pub onto : (row : List Cell) → IsRow rest row → IsRow piece (front ++ row)
   pub after : (row : List Cell) → IsRow piece row → (left : List Cell) × IsRow rest left × (row ≡ front ++ left)
 
-pub IsFront-none : (piece : List ℕ) → IsFront piece piece []
-IsFront-none piece = record { onto = λ row is. is; after = λ row is. (row, is, refl) }
-
 -- one item more is read
 pub IsFront-more : {piece rest item after : List ℕ} {front cells : List Cell} → IsFront piece rest front → IsItem item cells → rest ≡ item ++ after →
     IsFront piece after (front ++ cells)
@@ -97,9 +94,6 @@ pub record IsMeasured (piece rest : List ℕ) (front : List Cell) (size kept : �
   pub front_is : IsFront piece rest front
   pub size_is : size ≡ saturated (length front)
   pub kept_is : kept ≡ saturated (length (cut_row front))
-
-pub IsMeasured-none : (piece : List ℕ) → IsMeasured piece piece [] 0 0
-IsMeasured-none piece = record { front_is = IsFront-none piece; size_is = refl; kept_is = refl }
 
 -- an item of floor more
 pub IsMeasured-floor : {piece rest after : List ℕ} {front : List Cell} {size kept more : ℕ} (run : Run) → IsMeasured piece rest front size kept →
@@ -137,14 +131,6 @@ pub record IsPushed (piece rest : List ℕ) (front : List Cell) (cols room : ℕ
   pub front_is : IsFront piece rest front
   pub room_is : room ≡ cols - length front
   pub cells_are : new ≡ old ++ take cols front
-
-pub IsPushed-none : (piece : List ℕ) (cols : ℕ) (old : List Cell) → IsPushed piece piece [] cols cols old old
-IsPushed-none piece cols old = record {
-  front_is = IsFront-none piece;
-  room_is = omega arith;
-  cells_are = sym (append-nil old) ∙
-      ap (λ t. old ++ t) (sym (take-nil cols));
-}
 
 -- the cells of one run more
 pub IsPushed-more : {piece rest after : List ℕ} {front : List Cell} {cols room n : ℕ} {old new newer : List Cell} (run : Run) →

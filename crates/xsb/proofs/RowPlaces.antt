@@ -1,8 +1,7 @@
 -- The places of the rows of a board, line by line.
-use Rattle.std.proofs.Common.{◌≡◌, ℕ, zero, suc, ◌+◌, ◌-◌, ◌<◌, ◌≤◌, Bool, List, [], ◌∷◌, ◌++◌, length, take, replicate, flat_map, refl, sym, ap, ◌∙◌, arith}
+use Rattle.std.proofs.Common.{◌≡◌, ℕ, suc, ◌+◌, ◌-◌, ◌<◌, ◌≤◌, Bool, List, ◌∷◌, ◌++◌, length, take, replicate, flat_map, refl, sym, ap, ◌∙◌, arith}
 use Rattle.std.proofs.Common.{append_assoc, subst, Some, None, Result, Vec, Global}
 use Rattle.std.proofs.Math.Seq.{take-append_seam}
-use Rattle.std.proofs.lemmas.List.{append-nil}
 use Rattle.std.proofs.lemmas.Nat.{mul-le}
 use Rattle.grid.specs.declared.cell.Cell.{Cell}
 use Rattle.grid.specs.declared.limits.TheConstants.{MAX_ROWS, MAX_COLS}
@@ -27,12 +26,6 @@ use Rattle.xsb.proofs.Judging.{HasRows-cols, cols-exact, length-padded_rows, sam
 pub record Placing (all : List RowPlace) (count k number : ℕ) (rest : List (List ℕ)) (places : List RowPlace) : Type 0 where
   pub made : all ≡ places ++ row_places number (take (count - k) (cut_lines rest))
 
-pub Placing-none : (count number : ℕ) (lines rest : List (List ℕ)) → rest ≡ lines → Placing (row_places number (take count (cut_lines lines))) count 0 number rest []
-Placing-none count number lines rest e = record {
-  made = let whole : count - 0 ≡ count = omega arith in
-      ap (λ n. row_places number (take n (cut_lines lines))) (sym whole) ∙ ap (λ l. row_places number (take (count - 0) (cut_lines l))) (sym e);
-}
-
 -- one line more
 pub Placing-more : {all : List RowPlace} {count k number : ℕ} {rest : List (List ℕ)} {places : List RowPlace} (raw : List ℕ) (next : List (List ℕ)) (n next_number : ℕ)
     (fresh : List RowPlace) (rows : ℕ) (plain : Bool) → Placing all count k number rest places → k < count → n ≡ k + 1 → next_number ≡ number + 1 → rest ≡ raw ∷ next →
@@ -52,21 +45,6 @@ Placing-more {all} {count} {k} {number} {rest} {places} raw next n next_number f
           ap (λ l. l ++ row_places (suc number) (take (count - n) (cut_lines next))) (sym pushed_is) ∙
           ap (λ m. fresh ++ row_places m (take (count - n) (cut_lines next))) after;
     }
-
--- all lines are done
-pub Placing-all : {all : List RowPlace} {count k number : ℕ} {rest : List (List ℕ)} {places : List RowPlace} → Placing all count k number rest places → count ≤ k → places ≡ all
-Placing-all {all} {count} {k} {number} {rest} {places} is e =
-    let none : count - k ≡ 0 = omega arith in
-    sym (is.made ∙ ap (λ m. places ++ row_places number (take m (cut_lines rest))) none ∙ append-nil places)
-
--- no line is left
-pub Placing-end : {all : List RowPlace} {count k number : ℕ} {rest : List (List ℕ)} {places : List RowPlace} → Placing all count k number rest places → rest ≡ [] → places ≡ all
-Placing-end {all} {count} {k} {number} {rest} {places} is e =
-    sym (is.made ∙ ap (λ l. places ++ row_places number (take (count - k) (cut_lines l))) e ∙ ap (λ l. places ++ row_places number l) (take-nil (count - k)) ∙ append-nil places)
-  where
-    take-nil : (n : ℕ) → take {A = List ℕ} n [] ≡ []
-    take-nil zero = refl
-    take-nil (suc n) = refl
 
 take-front : (xs ys : List (List ℕ)) (n : ℕ) → n ≡ length xs → take n (xs ++ ys) ≡ xs
 take-front xs ys n e = ap (λ k. take k (xs ++ ys)) e ∙ take-append_seam xs ys

@@ -1,4 +1,4 @@
--- The boards of a collection: a relation between bytes and what stands in them, and how a board is judged.
+-- The boards of a collection: a relation between its bytes and its boards, and how a board is judged.
 use Rattle.std.specs.Prelude.{◌≡◌, ℕ, suc, ◌+◌, ◌<◌, ⊤, List, [], ◌∷◌, ◌++◌, length, flat_map, Result, Ok, Err}
 use Rattle.std.specs.List.{AllZip, AllByRecursion}
 use Rattle.grid.specs.declared.cell.Cell.{Cell}
@@ -10,7 +10,7 @@ use Rattle.xsb.specs.Rows.{IsRowLine, IsTextLine}
 use Rattle.xsb.specs.Boards.{board_of}
 use Rattle.xsb.specs.Names.{name_of}
 
--- what stands in a collection: a board with its name and the number of its first line, counted from 1
+-- an item of a collection: a board with its name and the number of its first line, counted from 1
 pub record Found : Type 0 where
   pub name : List ℕ
   pub first_line : ℕ
@@ -27,7 +27,7 @@ pub record IsPart (part : Part) : Type 0 where
   pub board : AllByRecursion (λ line. (rows : List (List Cell)) × IsRowLine line rows) part.board
   pub gap : AllByRecursion IsTextLine part.gap
 
--- between two boards stands a text line, so that each board is a longest run of row lines
+-- a text line separates two boards, so that each board is a longest run of row lines
 abbrev pub AreSeparated : List Part → Type 0
 AreSeparated (part ∷ next ∷ parts) = (0 < length part.gap) × AreSeparated (next ∷ parts)
 AreSeparated parts = ⊤

@@ -19,7 +19,7 @@ pub(crate) struct Beyond {
 }
 
 impl Beyond {
-    /// These lines after one more with this number, up to which the rows have this size.
+    /// These lines after reading one more, with this number; `size` is that of the rows up to it.
     fn with(self, size: Size, number: u32) -> Beyond
         ensures { result ≡ beyond_with self size number }
     {
@@ -30,13 +30,14 @@ impl Beyond {
     }
 }
 
-/// A line that was found, or else this one if it is found.
+/// The line that was found before, or else `number` if `is_found`.
 fn first_of(line: Option<u32>, is_found: bool, number: u32) -> Option<u32>
     ensures { result ≡ first_of line is_found number }
 {
-    match line {
-        Some(line) => Some(line),
-        None => { if is_found { Some(number) } else { None } }
+    if line.is_none() && is_found {
+        Some(number)
+    } else {
+        line
     }
 }
 

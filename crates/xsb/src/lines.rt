@@ -46,7 +46,7 @@ impl<'a> Lines<'a> {
         }
     }
 
-    /// The next line, without its end.
+    /// The next line, without its end. `None` at the end of the bytes.
     pub(crate) fn peek(&self) -> Option<&'a [u8]>
         ensures { MatchOption result (self.now.rest ≡ []) (λ line. IsNextLine self.now.rest line.now) }
     {

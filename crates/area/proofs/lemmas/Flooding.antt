@@ -30,9 +30,7 @@ area_seen board s words seen area same q = subst (λ (ws : List ℕ). (has_bit w
 -- the list of the squares of words that hold the area
 pub listed_area : (board : Board) (s : Scene) (words seen : List ℕ) → ((q : ℕ) → (has_bit words q ≡ true) ↔ Area board s q) → seen ≡ words → (q : ℕ) →
     (contains (squares_of seen) q ≡ true) ↔ Area board s q
-listed_area board s words seen area same q =
-    let e : contains (squares_of seen) q ≡ has_bit words q = contains-squares_of seen q ∙ ap (λ (ws : List ℕ). has_bit ws q) same in
-    (λ h. (area q).0 (sym e ∙ h), λ w. e ∙ (area q).1 w)
+listed_area board s words seen area same q = grind (arith, contains-squares_of)
 
 -- the list of the squares of words that hold the boxes
 pub listed_boxes : (boxes : Squares) (words seen : List ℕ) → is_rising boxes ≡ true → ((q : ℕ) → has_bit words q ≡ contains boxes q) → seen ≡ words →

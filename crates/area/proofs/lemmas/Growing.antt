@@ -37,42 +37,18 @@ shr_bit a by j h = sym (word_bit-shr a by (j + by) j refl) ∙ h
 
 -- one step
 pub grown_up : (word mask by : ℕ) → mask < 2 ^ 64 → IsGrown word (bit_or word (bit_and (word * 2 ^ by % 2 ^ 64) mask)) (λ test. PassesUp test by mask)
-grown_up word mask by fits = record {
-  kept = λ j h. bit_or_left word (bit_and (word * 2 ^ by % 2 ^ 64) mask) j h;
-  most = le_or_l word (bit_and (word * 2 ^ by % 2 ^ 64) mask);
-  sound = λ test pass old j h. elim (or_bit word (bit_and (word * 2 ^ by % 2 ^ 64) mask) j h) [
-    | inl here ↦ old j here
-    | inr new ↦ (let p = and_bit (word * 2 ^ by % 2 ^ 64) mask j new in
-        let s = shl_bit word by j (word_bit_inside mask j fits p.1) p.0 in
-        pass s.0 j s.1 p.1 (old s.0 s.2))
-  ];
-}
+grown_up word mask by fits = grind (arith, bit_or_left, le_or_l, or_bit, and_bit, shl_bit, word_bit_inside)
 
 pub grown_down : (word mask by : ℕ) → IsGrown word (bit_or word (bit_and (word / 2 ^ by) mask)) (λ test. PassesDown test by mask)
-grown_down word mask by = record {
-  kept = λ j h. bit_or_left word (bit_and (word / 2 ^ by) mask) j h;
-  most = le_or_l word (bit_and (word / 2 ^ by) mask);
-  sound = λ test pass old j h. elim (or_bit word (bit_and (word / 2 ^ by) mask) j h) [
-    | inl here ↦ old j here
-    | inr new ↦ (let p = and_bit (word / 2 ^ by) mask j new in pass (j + by) j refl p.1 (old (j + by) (shr_bit word by j p.0)))
-  ];
-}
+grown_down word mask by = grind (arith, bit_or_left, le_or_l, or_bit, and_bit, shr_bit)
 
 -- one after the other
 pub grown_then : (a b c : ℕ) (P : (ℕ → Bool) → Type 0) → IsGrown a b P → IsGrown b c P → IsGrown a c P
-grown_then a b c P g h = record {
-  kept = λ j x. h.kept j (g.kept j x);
-  most = (let p = g.most in let q = h.most in omega arith);
-  sound = λ test pass old. h.sound test pass (g.sound test pass old);
-}
+grown_then a b c P g h = grind arith
 
 -- what needs less to pass on
 pub grown_by : (a b : ℕ) (P Q : (ℕ → Bool) → Type 0) → ((test : ℕ → Bool) → Q test → P test) → IsGrown a b P → IsGrown a b Q
-grown_by a b P Q weaker g = record {
-  kept = g.kept;
-  most = g.most;
-  sound = λ test pass old. g.sound test (weaker test pass) old;
-}
+grown_by a b P Q weaker g = grind arith
 
 -- runs to the right, steps to the left, and then a step down and one up
 pub grown_once : (word right left row down last free by : ℕ) → IsGrown word right (λ test. PassesUp test 1 free) →

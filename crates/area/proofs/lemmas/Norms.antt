@@ -98,10 +98,6 @@ pub norm_walk_back : {board : Board} {s n : Scene} → IsScene board s → IsNor
     → (ds : List Dir) × Play board Any n ds [] s
 norm_walk_back scene h = let r = walk_backwards scene (norm_walk h).1 in (r.0, r.2)
 
--- a normal form is a state, which fits the level where the state does, and is its own normal form
-pub norm_scene : {board : Board} {s n : Scene} → IsScene board s → IsNorm board s n → IsScene board n
-norm_scene scene h = play_scene scene (norm_walk h).1
-
 pub norm_fits : {board : Board} {s n : Scene} → FitsLevel board s → IsNorm board s n → FitsLevel board n
 norm_fits fits h = play_fits fits (norm_walk h).1
 

@@ -27,21 +27,10 @@ pushed_at (z ∷ xs) x y (suc i) e = elim (pushed_at xs x y i e) [ inl h ↦ inl
 -- ---- all that has a property
 
 module _ {A : Type 0} {push_of : A → Push} where
-  pub all_none : (Has : A → Type 0) → ((x : A) → Has x → ⊥) → AreAll push_of Has []
-  all_none Has none = record {
-    each = λ i x e. absurd (none-some x e);
-    rise = λ i j x y lt e f. absurd (none-some x e);
-    whole = λ x h. absurd (none x h);
-  }
-
   -- the property in other words
   pub all_same : (Has Other : A → Type 0) (xs : List A) → AreAll push_of Has xs → ((x : A) → Has x → Other x) → ((x : A) → Other x → Has x) →
       AreAll push_of Other xs
-  all_same Has Other xs all on back = record {
-    each = λ i x e. on x (all.each i x e);
-    rise = all.rise;
-    whole = λ x h. all.whole x (back x h);
-  }
+  all_same Has Other xs all on back = grind arith
 
   -- one more, after the others
   pub all_push : (Has More : A → Type 0) (xs : List A) (z : A) → AreAll push_of Has xs → More z → ((x : A) → Has x → More x) →

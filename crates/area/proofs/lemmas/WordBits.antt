@@ -5,7 +5,7 @@ use Rattle.std.specs.Int.{bit_at, bit_not, w64}
 use Rattle.std.specs.Int.RustNames.{bit_and, bit_or}
 use Rattle.std.proofs.lemmas.Bool.{cases_lt, eqb-true, true≢false}
 use Rattle.std.proofs.lemmas.List.{get_or_past}
-use Rattle.std.proofs.lemmas.Nat.{pow_pos, shr-shr, div-mul-add, mod-mul-add, shr_split}
+use Rattle.std.proofs.lemmas.Nat.{pow_pos, shr-shr, shr_split}
 use Rattle.std.proofs.lemmas.Nat.Bits.{bit_at_and, bit_at_or, bit_at_not, bit_at-lt, shr_and_one, bit_at-zero, bit_at_above, bit_at_cat_low, bit_at_cat_high}
 use Rattle.grid.specs.declared.masks.TheConstants.{WORD_BITS}
 use Rattle.grid.specs.Masks.{has_bit}
@@ -96,12 +96,7 @@ word_bit-shr a by i j e = ap (λ (x : ℕ). eqb x 1)
 -- the set has a square where its word has the square's bit
 pub has_bit-at : (words : List ℕ) (k j : ℕ) → j < WORD_BITS → has_bit words (WORD_BITS * k + j) ≡ word_bit (get_or words k 0) j
 unfolding has_bit word_bit
-has_bit-at words k j lt =
-    let d : (WORD_BITS * k + j) / WORD_BITS ≡ k = ap (λ (x : ℕ). (x + j) / WORD_BITS) (let e : WORD_BITS * k ≡ k * WORD_BITS = omega arith in e) ∙
-    div-mul-add k WORD_BITS j lt in
-    let m : (WORD_BITS * k + j) % WORD_BITS ≡ j = ap (λ (x : ℕ). (x + j) % WORD_BITS) (let e : WORD_BITS * k ≡ k * WORD_BITS = omega arith in e) ∙
-    mod-mul-add k WORD_BITS j lt in
-    ap (λ (x : ℕ). eqb (bit_at (get_or words x 0) ((WORD_BITS * k + j) % WORD_BITS)) 1) d ∙ ap (λ (x : ℕ). eqb (bit_at (get_or words k 0) x) 1) m
+has_bit-at words k j lt = grind arith
 
 -- each square has an index and a bit
 pub square_parts : (q : ℕ) → (WORD_BITS * (q / WORD_BITS) + q % WORD_BITS ≡ q) × (q % WORD_BITS < WORD_BITS)
@@ -113,11 +108,8 @@ has_bit-parts words q = refl
 
 -- past the words nothing is in the set
 pub has_bit_inside : (words : List ℕ) (q : ℕ) → has_bit words q ≡ true → q < WORD_BITS * length words
-has_bit_inside words q h = elim (cases_lt (q / WORD_BITS) (length words)) [
-  | inl lt ↦ omega (arith, square_parts q)
-  | inr le ↦ absurd (true≢false (sym h ∙
-      (has_bit-parts words q ∙ (ap (λ (w : ℕ). word_bit w (q % WORD_BITS)) (get_or_past words (q / WORD_BITS) 0 le) ∙ word_bit-zero (q % WORD_BITS)))))
-]
+has_bit_inside words q h =
+    grind (arith, cases_lt, square_parts, true≢false, has_bit-parts, get_or_past, word_bit-zero)
 
 -- ---- what a word shows of words before and after it
 
@@ -138,21 +130,11 @@ past_end a j fits le = ap (λ (x : ℕ). eqb x 1) (bit_at_above a WORD_BITS j fi
 -- the bits of two words in a row, slid up
 pub up_here : (here low near i j : ℕ) → low < 2 ^ 64 → j < WORD_BITS → i + near ≡ j →
     word_bit (bit_or (here * 2 ^ near % 2 ^ 64) (low / 2 / 2 ^ (WORD_BITS - 1 - near))) j ≡ word_bit here i
-up_here here low near i j fits lt e =
-    word_bit-or (here * 2 ^ near % 2 ^ 64) (low / 2 / 2 ^ (WORD_BITS - 1 - near)) j
-    ∙ (or_right_none (word_bit (here * 2 ^ near % 2 ^ 64) j) (word_bit (low / 2 / 2 ^ (WORD_BITS - 1 - near)) j) (halved low (WORD_BITS - 1 - near) j ∙
-    past_end low (j + (WORD_BITS - 1 - near) + 1) fits (omega arith))
-    ∙ word_bit-shl here near i j e lt)
+up_here here low near i j fits lt e = grind (arith, word_bit-or, or_right_none, halved, past_end, word_bit-shl)
 
 pub up_low : (here low near i j : ℕ) → near < WORD_BITS → i < WORD_BITS → i + near ≡ j + WORD_BITS →
     word_bit (bit_or (here * 2 ^ near % 2 ^ 64) (low / 2 / 2 ^ (WORD_BITS - 1 - near))) j ≡ word_bit low i
-up_low here low near i j small lt e =
-    let same : j + (WORD_BITS - 1 - near) + 1 ≡ i = omega arith in
-    word_bit-or (here * 2 ^ near % 2 ^ 64) (low / 2 / 2 ^ (WORD_BITS - 1 - near)) j
-    ∙ (or_left_none (word_bit (here * 2 ^ near % 2 ^ 64) j) (word_bit (low / 2 / 2 ^ (WORD_BITS - 1 - near)) j)
-    (word_bit-shl_low here near j (omega arith) (omega arith))
-    ∙ (halved low (WORD_BITS - 1 - near) j
-    ∙ ap (word_bit low) same))
+up_low here low near i j small lt e = grind (arith, word_bit-or, or_left_none, word_bit-shl_low, halved)
 
 -- and slid down
 pub down_here : (here high near i j : ℕ) → near < WORD_BITS → i < WORD_BITS → i ≡ j + near →

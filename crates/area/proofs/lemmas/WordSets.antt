@@ -1,6 +1,6 @@
 -- Sets of squares as words: one square more or less, the least square, and the list of the squares.
 use Rattle.std.proofs.Common.{◌≡◌, ◌≢◌, ℕ, zero, suc, ◌+◌, ◌*◌, ◌/◌, ◌%◌, ◌^◌, ◌<◌, ◌≤◌, min, Bool, true, false, not}
-use Rattle.std.proofs.Common.{cond, eqb, ◌&&◌, ◌||◌, ◌⊎◌, List, ◌∷◌, length, get_or, set, replicate, inl, inr, refl}
+use Rattle.std.proofs.Common.{cond, eqb, ◌&&◌, ◌||◌, List, ◌∷◌, length, get_or, set, replicate, inl, inr, refl}
 use Rattle.std.proofs.Common.{sym, ap, subst, ◌∙◌, arith}
 use Rattle.std.specs.Int.{bit_at, bit_not, trailing_zeros, w64}
 use Rattle.std.specs.Int.RustNames.{bit_and, bit_or}
@@ -44,10 +44,7 @@ cleared_bit w k j lt in_word = elim (cases_eq j k) [
 
 -- two tests for equal numbers that say the same
 pub same_test : (a b c d : ℕ) → (a ≡ b → c ≡ d) → (c ≡ d → a ≡ b) → eqb a b ≡ eqb c d
-same_test a b c d f g = elim (cases_eq a b) [
-  | inl e ↦ eq-eqb a b e ∙ sym (eq-eqb c d (f e))
-  | inr ne ↦ ne_eqb a b ne ∙ sym (ne_eqb c d (λ e. ne (g e)))
-]
+same_test a b c d f g = grind arith
 
 -- the set with one square more
 pub bit_put : (words : List ℕ) (read square q : ℕ) → read ≡ square → read / WORD_BITS < length words →
@@ -118,24 +115,13 @@ bit_take words read square q at inside = elim (cases_eq (q / WORD_BITS) (read / 
 -- the set without squares
 pub none_set : (words : List ℕ) (n q : ℕ) → words ≡ replicate n 0 → has_bit words q ≡ false
 none_set words n q e =
-    ap (λ (ws : List ℕ). has_bit ws q) e
-    ∙ (has_bit-parts (replicate n 0) q
-    ∙ (ap (λ (w : ℕ). word_bit w (q % WORD_BITS)) (zeros (q / WORD_BITS)) ∙ word_bit-zero (q % WORD_BITS)))
-  where
-    zeros : (k : ℕ) → get_or {A = ℕ} (replicate n 0) k 0 ≡ 0
-    zeros k = elim (cases_lt k n) [
-      | inl lt ↦ get_or-replicate n k 0 0 lt
-      | inr le ↦ get_or_past (replicate n 0) k 0 (let l = length-replicate {A = ℕ} n 0 in omega (arith, l))
-    ]
+    grind (arith, has_bit-parts, word_bit-zero, cases_lt, get_or-replicate, get_or_past, length-replicate)
 
 -- a word without the bit of a square
 pub bit_without : (index word read square j : ℕ) → read ≡ square → index ≡ read / WORD_BITS → j < WORD_BITS →
     word_bit (bit_and word (bit_not w64 (1 * 2 ^ (read % WORD_BITS) % 2 ^ 64))) j ≡ (word_bit word j && not
     (eqb (WORD_BITS * index + j) square))
-bit_without index word read square j at same lt =
-    cleared_bit word (read % WORD_BITS) j (square_parts read).1 lt
-    ∙ ap (λ (b : Bool). word_bit word j && not b)
-    (same_test (read % WORD_BITS) j (WORD_BITS * index + j) square (λ f. omega arith) (λ f. omega arith))
+bit_without index word read square j at same lt = grind (arith, cleared_bit, square_parts, same_test)
 
 -- ---- the least square
 
@@ -160,43 +146,19 @@ pub least_word : (words : List ℕ) (index r : ℕ) → ((k : ℕ) → k < index
     → r ≡ WORD_BITS * index + trailing_zeros w64 (get_or words index 0)
     → (has_bit words r ≡ true) × ((q : ℕ) → has_bit words q ≡ true → r ≤ q)
 least_word words index r none some fits e =
-    let t = lowest_bit (get_or words index 0) some fits in (
-      ap (has_bit words) e ∙ (has_bit-at words index (trailing_zeros w64 (get_or words index 0)) t.0 ∙ t.1),
-      λ q h. elim (cases_order (q / WORD_BITS) index) [
-        | inl same ↦
-            (let p =
-            t.2 (q % WORD_BITS)
-            (sym (has_bit-parts words q ∙ ap (λ (k : ℕ). word_bit (get_or words k 0) (q % WORD_BITS)) same) ∙ h) in
-            omega (arith, p))
-        | inr (inl less) ↦ absurd
-            (true≢false (sym h ∙ (has_bit-parts words q ∙
-            (ap (λ (w : ℕ). word_bit w (q % WORD_BITS)) (none (q / WORD_BITS) less) ∙ word_bit-zero (q % WORD_BITS)))))
-        | inr (inr more) ↦ (let p = t.0 in omega (arith, p))
-      ],
-    )
+    grind (arith, lowest_bit, has_bit-at, cases_order, has_bit-parts, true≢false, word_bit-zero)
 
 -- where all words are 0, nothing is in the set
 pub none_there : (words : List ℕ) (n q : ℕ) → ((k : ℕ) → k < n → get_or words k 0 ≡ 0) → length words ≤ n
     → has_bit words q ≡ true → ⊥
-none_there words n q none all h =
-    let lt = has_bit_inside words q h in
-    true≢false (sym h ∙ (has_bit-parts words q ∙
-    (ap (λ (w : ℕ). word_bit w (q % WORD_BITS)) (none (q / WORD_BITS) (omega arith)) ∙ word_bit-zero (q % WORD_BITS))))
+none_there words n q none all h = grind (arith, has_bit_inside, true≢false, has_bit-parts, word_bit-zero)
 
 -- ---- the list of the squares
-
--- a number that is not the first, and not among the rest, is not in the list
-not_first : (k q : ℕ) (xs : Squares) (b : Bool) → k ≢ q → contains xs q ≡ false
-    → contains (cond b (k ∷ xs) xs) q ≡ false
-not_first k q xs true ne h = ap (λ (x : Bool). x || contains xs q) (ne_eqb k q ne) ∙ h
-not_first k q xs false ne h = h
 
 -- a number is among those that pass where it is in the range and passes
 passing_below : (test : ℕ → Bool) (k n q : ℕ) → q < k → contains (passing_from test k n) q ≡ false
 passing_below test k zero q lt = refl
-passing_below test k (suc n) q lt =
-    not_first k q (passing_from test (suc k) n) (test k) (λ e. omega arith)
-    (passing_below test (suc k) n q (omega arith))
+passing_below test k (suc n) q lt = grind (arith, passing_below test (suc k) n q (omega arith))
 
 pub passing_within : (test : ℕ → Bool) (k n q : ℕ) → k ≤ q → q < k + n → contains (passing_from test k n) q ≡ test q
 passing_within test k zero q ge lt = absurd (omega arith)
@@ -216,22 +178,12 @@ passing_within test k (suc n) q ge lt = elim (cases_eq k q) [
 
 pub passing_past : (test : ℕ → Bool) (k n q : ℕ) → k + n ≤ q → contains (passing_from test k n) q ≡ false
 passing_past test k zero q ge = refl
-passing_past test k (suc n) q ge =
-    not_first k q (passing_from test (suc k) n) (test k) (λ e. omega arith)
-    (passing_past test (suc k) n q (omega arith))
+passing_past test k (suc n) q ge = grind (arith, passing_past test (suc k) n q (omega arith))
 
 -- a square is in the list where the words have its bit
 pub contains-squares_of : (words : List ℕ) (q : ℕ) → contains (squares_of words) q ≡ has_bit words q
 unfolding squares_of
-contains-squares_of words q = elim (cases_lt q (WORD_BITS * length words)) [
-  | inl lt ↦ passing_within (has_bit words) 0 (WORD_BITS * length words) q (omega arith) (omega arith)
-  | inr ge ↦ passing_past (has_bit words) 0 (WORD_BITS * length words) q (omega arith)
-      ∙ sym (past ge (cases_Bool (has_bit words q)))
-]
-  where
-    past : WORD_BITS * length words ≤ q → (has_bit words q ≡ true) ⊎ (has_bit words q ≡ false) → has_bit words q ≡ false
-    past ge (inl h) = absurd (let lt = has_bit_inside words q h in omega arith)
-    past ge (inr h) = h
+contains-squares_of words q = grind (arith, cases_lt, passing_within, passing_past, cases_Bool, has_bit_inside)
 
 -- a member by its bit, and back
 pub member_bit : (words : List ℕ) (q : ℕ) → contains (squares_of words) q ≡ true → has_bit words q ≡ true
@@ -243,12 +195,7 @@ bit_member words q h = contains-squares_of words q ∙ h
 -- the numbers in the list rise
 pub passing_rise : (test : ℕ → Bool) (k n : ℕ) → rises_from k (passing_from test k n) ≡ true
 passing_rise test k zero = refl
-passing_rise test k (suc n) = with_first (test k) (passing_rise test (suc k) n)
-  where
-    with_first : (b : Bool) → rises_from (suc k) (passing_from test (suc k) n) ≡ true →
-        rises_from k (cond b (k ∷ passing_from test (suc k) n) (passing_from test (suc k) n)) ≡ true
-    with_first true h = rises_from-cons k k (passing_from test (suc k) n) (omega arith) h
-    with_first false h = rises_from-weaker k (suc k) (passing_from test (suc k) n) (omega arith) h
+passing_rise test k (suc n) = grind (arith, passing_rise test (suc k) n, rises_from-cons, rises_from-weaker)
 
 pub squares_of_rise : (words : List ℕ) → is_rising (squares_of words) ≡ true
 unfolding squares_of
@@ -257,9 +204,7 @@ squares_of_rise words = passing_rise (has_bit words) 0 (WORD_BITS * length words
 -- the same where the words and the list have names
 pub listed : (words seen : List ℕ) (squares : Squares) (q : ℕ) → squares_of words ≡ squares → seen ≡ words
     → contains squares q ≡ has_bit seen q
-listed words seen squares q list same =
-    ap (λ (xs : Squares). contains xs q) (sym list)
-    ∙ (contains-squares_of words q ∙ ap (λ (ws : List ℕ). has_bit ws q) (sym same))
+listed words seen squares q list same = grind (arith, contains-squares_of)
 
 -- the squares of the words before an index are none but `but`
 pub below_word : (words : List ℕ) (but index word rest : ℕ)
@@ -343,11 +288,4 @@ least_rest words but more index word rest r below at bits some fits e = record {
 pub least_none : (words : List ℕ) (but more n : ℕ) → ((q : ℕ) → q < WORD_BITS * n → has_bit words q ≡ true → q ≡ but)
     → length words ≤ n
     → IsLeastWith (squares_of words) but more more
-least_none words but more n below all = record {
-  one = inl refl;
-  most = omega arith;
-  least = λ q h ne.
-      (let there : has_bit words q ≡ true = sym (contains-squares_of words q) ∙ h in
-      let lt = has_bit_inside words q there in
-      absurd (ne (below q (omega arith) there)));
-}
+least_none words but more n below all = grind (arith, contains-squares_of, has_bit_inside)

@@ -10,19 +10,19 @@ use Rattle.area.specs.LeastWalks.{walk_letters}
 abbrev pub IsDown : Board → (ℕ → ℕ) → ℕ → Dir → Type 0
 IsDown board mark q d = suc (mark (next board q d)) ≡ mark q
 
--- of the directions that go down, the first in the order d, l, r, u
+-- the direction is the first that goes down, in the order d, l, r, u
 abbrev pub IsFirstDown : Board → (ℕ → ℕ) → ℕ → Dir → Type 0
 IsFirstDown board mark q d = IsDown board mark q d × ((e : Dir) → IsDown board mark q e → dir_number d ≤ dir_number e)
 
--- from q, going down in the first direction each time, over reached squares, one comes to a square by these steps
+-- these steps lead from q over reached squares to the square `to`, each in the first direction that goes down
 pub data IsDescent (board : Board) (base to : ℕ) (mark : ℕ → ℕ) : ℕ → List Dir → Type 0 where
   arrived : IsDescent board base to mark to []
   onward : {q : ℕ} {d : Dir} {ds : List Dir} → base < mark (next board q d) → IsFirstDown board mark q d →
       IsDescent board base to mark (next board q d) ds →
       IsDescent board base to mark q (d ∷ ds)
 
--- in the midst of a descent: the letters so far are those of the steps from the first square to q, and going on from
--- q goes on from the first square
+-- during a descent: the letters so far are those of steps from the first square to q, and a descent from q completes
+-- one from the first square
 pub record IsDescending (board : Board) (base to : ℕ) (mark : ℕ → ℕ) (first q : ℕ) (before now : List Letter) : Type 0
   where
     pub ds : List Dir

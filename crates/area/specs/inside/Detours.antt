@@ -16,7 +16,7 @@ across U = R
 abbrev pub IsAcross : Dir → Dir → Type 0
 IsAcross d e = (e ≡ across d) ⊎ (e ≡ opposite (across d))
 
--- from the square `from` one comes to a square by steps onto squares of a set, round the square `but`
+-- steps over squares of a set, except `but`, lead from the square `from` to a square
 pub data Skirts (board : Board) (set : Squares) (but from : ℕ) : ℕ → Type 0 where
   here : Skirts board set but from from
   onward : {q : ℕ} (d : Dir) → Skirts board set but from q → contains set (next board q d) ≡ true →
@@ -32,11 +32,11 @@ IsKnown board boxes set but q d = let r = next board q d in
 abbrev pub GainsNothing : Board → Squares → Squares → ℕ → ℕ → Type 0
 GainsNothing board boxes set but q = (d : Dir) → IsKnown board boxes set but q d
 
--- the square beside `but` in a direction, where it is of the set, is come to from `from` round `but`
+-- if the square beside `but` in a direction is in the set, steps over the set lead to it from `from` round `but`
 abbrev pub IsJoined : Board → Squares → ℕ → ℕ → Dir → Type 0
 IsJoined board set but from d = contains set (next board but d) ≡ true → Skirts board set but from (next board but d)
 
--- where `but` is of the set, so is each square beside it
+-- if `but` is in the set, each square beside it is joined to `from`
 abbrev pub StaysJoined : Board → Squares → ℕ → ℕ → Type 0
 StaysJoined board set but from = contains set but ≡ true → (d : Dir) → IsJoined board set but from d
 
@@ -58,7 +58,7 @@ pub record GoesRound (board : Board) (set : Squares) (from but : ℕ) (d side : 
   pub beyond : contains set (next board but d) ≡ true
   pub fifth : contains set (next board (next board but d) (opposite side)) ≡ true
 
--- q is the least of the squares of the set but for `but`, and of the square `more`
+-- q is the least of `more` and the squares of the set except `but`
 pub record IsLeastWith (set : Squares) (but more q : ℕ) : Type 0 where
   pub one : (q ≡ more) ⊎ ((contains set q ≡ true) × (q ≢ but))
   pub most : q ≤ more

@@ -4,7 +4,7 @@ use Rattle.grid.specs.declared.dir.Dir.{Dir}
 use Rattle.grid.specs.Board.{Board, IsFree, next, opposite}
 use Rattle.grid.specs.Squares.{Squares, contains}
 
--- someone on the reached squares can push the box on q in the direction: a box stands there, the square behind it was
+-- a player on the reached squares can push the box on q in the direction: a box is there, the square behind it was
 -- reached, and the square ahead has neither wall nor box
 pub record IsPushable (board : Board) (boxes reached : Squares) (d : Dir) (q : ℕ) : Type 0 where
   pub there : contains boxes q ≡ true

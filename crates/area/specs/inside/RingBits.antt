@@ -36,7 +36,7 @@ corner_bit ring L e = word_bit (row_to ring e) 0
 corner_bit ring R e = word_bit (row_to ring e) 2
 corner_bit ring U e = word_bit ring.above (column_to e)
 
--- the flank tells of three squares which ones the set has
+-- the flank says which of three squares are in the set
 pub record IsFlank (corner beside front : Bool) (flank : Flank) : Type 0 where
   pub at_corner : flank.corner ≡ corner
   pub at_side : flank.beside ≡ beside
@@ -57,7 +57,7 @@ pub record IsTurned (ring : Ring) (d : Dir) (view : Turned) : Type 0 where
 abbrev pub goes_past : Flank → Bool
 goes_past flank = (flank.corner && flank.beside) && flank.front
 
--- the square of a flank beside the middle, if it is of the set, is come to by the one before it
+-- if the square of a flank beside the middle is in the set, a step from the corner leads to it
 abbrev pub keeps_side : Flank → Bool
 keeps_side flank = flank.corner || not flank.beside
 
@@ -70,18 +70,17 @@ abbrev pub keeps_each : Turned → Bool
 keeps_each view =
     (keeps_side view.one && keeps_side view.other) && ((not view.beyond || goes_past view.one) || goes_past view.other)
 
--- where the middle is of the set, those next to it stay joined with the square that a box comes from when it comes
--- there
+-- if the middle is in the set, the squares of the set next to it stay joined with the square that the box came from
 abbrev pub joins : Turned → Bool
 joins view = (goes_round view || keeps_each view) || not view.middle
 
--- the rows have the bits of the numbers round q, where so many numbers make a row
+-- the rows have the bits of the numbers round q, with `cols` numbers in a row
 pub record IsRing (cols : ℕ) (words : List ℕ) (q : ℕ) (ring : Ring) : Type 0 where
   pub above : (i j : ℕ) → j < 3 → i + cols + 1 ≡ q + j → word_bit ring.above j ≡ has_bit words i
   pub beside : (i j : ℕ) → j < 3 → i + 1 ≡ q + j → word_bit ring.beside j ≡ has_bit words i
   pub below : (i j : ℕ) → j < 3 → i + 1 ≡ q + cols + j → word_bit ring.below j ≡ has_bit words i
 
--- the rows tell of the squares round q which ones the set has
+-- the rows say which of the squares round q are in the set
 pub record IsAround (board : Board) (set : Squares) (q : ℕ) (ring : Ring) : Type 0 where
   pub middle : word_bit ring.beside 1 ≡ contains set q
   pub sides : (d : Dir) → side_bit ring d ≡ contains set (next board q d)

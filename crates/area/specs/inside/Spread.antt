@@ -5,8 +5,8 @@ use Rattle.grid.specs.declared.dir.Dir.{Dir}
 use Rattle.grid.specs.Board.{Board, is_wall, next, dir_number}
 use Rattle.grid.specs.Squares.{Squares, contains}
 
--- A mark of `base` says that a box stands on the square, a lesser mark that the search did not come upon it, and
--- the mark `base + 1 + n` that it is reached, n steps from the square where the search began.
+-- A mark of `base` says that a box is on the square, a lesser mark that the search has not reached it, and the mark
+-- `base + 1 + n` that it is n steps from the square where the search began.
 
 -- before a search: the boxes have the mark `base`, and every other square has a lesser one
 abbrev pub AreBlocked : ℕ → Squares → List ℕ → Type 0
@@ -25,8 +25,8 @@ abbrev pub HasCome : Board → ℕ → (ℕ → ℕ) → ℕ → Type 0
 HasCome board base mark q =
     (m : ℕ) × (d : Dir) × (base < mark m) × (next board m d ≡ q) × (mark q ≡ suc (mark m))
 
--- after a search that began at a square: its mark says no step, each other reached square came from one beside it,
--- and the search stopped nowhere early
+-- after a search that began at a square: its mark says 0 steps, each other reached square was reached from one beside
+-- it, and each free square beside a reached one is reached
 pub record IsSpread (board : Board) (base from : ℕ) (mark : ℕ → ℕ) : Type 0 where
   pub start : mark from ≡ suc base
   pub free : (q : ℕ) → base < mark q → is_wall board q ≡ false
@@ -43,7 +43,7 @@ pub record IsSearched (board : Board) (boxes : Squares) (base from : ℕ) (marks
 abbrev pub KeepsBlocked : ℕ → List ℕ → List ℕ → Type 0
 KeepsBlocked base old new = (q : ℕ) → (slice_index old q ≡ base) ↔ (slice_index new q ≡ base)
 
--- memory in which a search from a square begins, round the boxes' marks
+-- the memory before a search from a square: no mark is above `base`, and the square is no wall and has a lesser mark
 pub record IsBegun (board : Board) (base from : ℕ) (marks queue : List ℕ) : Type 0 where
   pub room : length marks ≡ length board.cells
   pub places : length queue ≡ length board.cells
@@ -52,8 +52,8 @@ pub record IsBegun (board : Board) (base from : ℕ) (marks queue : List ℕ) : 
   pub clear : is_wall board from ≡ false
   pub vacant : slice_index marks from < base
 
--- In the midst of a search the reached squares stand in a queue, in the order in which they were reached: those
--- before `head` were looked round from, of the one at `head` the directions whose number is less than `seen`.
+-- During a search the reached squares are in a queue, in the order in which they were reached. The search has looked
+-- round from those before `head`, and from the one at `head` in the directions with numbers below `seen`.
 pub record IsSpreading (board : Board) (base from : ℕ) (mark place : ℕ → ℕ) (head seen tail : ℕ) : Type 0 where
   pub start : mark from ≡ suc base
   pub free : (q : ℕ) → base < mark q → is_wall board q ≡ false
@@ -75,11 +75,11 @@ pub data IsLook (board : Board) (base n mark tail : ℕ) (marks queue : List ℕ
   takes : is_wall board n ≡ false → slice_index marks n < base →
       IsLook board base n mark tail marks queue (tail + 1) (slice_set marks n mark) (slice_set queue tail n)
 
--- how many squares the search did not come upon yet
+-- how many squares the search has not reached
 abbrev pub untouched : ℕ → List ℕ → ℕ
 untouched base marks = sum_by (λ m. cond (nat_lt m base) 1 0) marks
 
--- in the midst of a search: what is in the memory, with room in the queue for each square that was not come upon yet
+-- the memory during a search, with room in the queue for each square that is not reached
 pub record IsUnderWay (board : Board) (base from : ℕ) (old marks queue : List ℕ) (head seen tail : ℕ) : Type 0 where
   pub room : length marks ≡ length board.cells
   pub places : length queue ≡ length board.cells

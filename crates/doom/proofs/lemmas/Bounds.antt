@@ -11,7 +11,7 @@ use Rattle.grid.specs.Board.{Board, Scene, IsSolved, is_wall, is_goal, next, opp
 use Rattle.grid.specs.States.{IsScene}
 use Rattle.grid.specs.Plays.{Play, Any, stay, walk, push}
 use Rattle.grid.proofs.lemmas.Squares.{contains_head, contains-remove_out, contains-below, remove_out, rises_from-parts}
-use Rattle.grid.proofs.lemmas.Steps.{next_back, push_boxes, walk_boxes, scene_after_walk, scene_after_push}
+use Rattle.grid.proofs.lemmas.Steps.{next_back, push_boxes, scene_after_walk, scene_after_push}
 use Rattle.doom.specs.Deadlocks.{Live, home, onward}
 use Rattle.doom.specs.Bounds.{IsFar, IsLower, pushes_of}
 use Rattle.doom.specs.Sums.{NeedAtLeast, HaveOneSum, HaveDead, LessenByOne, PushLessensByOne, SolvedNeedNone}
@@ -19,20 +19,11 @@ use Rattle.doom.specs.inside.Pulling.{HasWay}
 use Rattle.doom.specs.Lost.{AreLost}
 use Rattle.doom.proofs.lemmas.Soundness.{dead_loses_box}
 
--- a square has one least number
-pub far_once : (board : Board) (q m n : ℕ) → IsFar board q m → IsFar board q n → m ≡ n
-far_once board q m n ((way, count), least) ((other, same), none) =
-    let le = least other in
-    let ge = none way in
-    omega (arith, count, same, le, ge)
-
 -- and so boxes have one sum
 pub lower_once : (board : Board) → HaveOneSum board
 lower_once board [] m n one other = one ∙ sym other
 lower_once board (q ∷ qs) m n (a, b, far, rest, sum) (a', b', far', rest', sum') =
-    let same = far_once board q a a' far far' in
-    let still = lower_once board qs b b' rest rest' in
-    omega (arith, sum, sum', same, still)
+    grind (arith, lower_once board qs b b' rest rest')
 
 -- ---- there is a way of so many pushes, or there is none
 
@@ -192,24 +183,15 @@ played : (board : Board) (s t : Scene) (ds : List Dir) (ps : List Push) → IsSc
     IsLower board s.boxes n × (n ≤ length ps)
 played board s t ds ps scene (stay ok) solved = (0, solved_need_none board s solved, omega arith)
 played board s t (d ∷ ds) ps scene (walk {m = m} ok step play) solved =
-    let (n, lower, le) = played board m t ds ps (scene_after_walk board s d m scene step) play solved in
-    (n, subst (λ ys. IsLower board ys n) (walk_boxes board s d m step) lower, le)
+    grind (arith, played board m t ds ps (scene_after_walk board s d m scene step) play solved)
 played board s t (d ∷ ds) (p ∷ ps) scene (push {m = m} ok step play) solved =
-    let (n, lower, le) = played board m t ds ps (scene_after_push board s d m scene step) play solved in
-    let (k, more, few) = push_lessens board s m d n scene step lower in
-    (k, more, omega (arith, le, few))
+    grind (arith, played board m t ds ps (scene_after_push board s d m scene step) play solved, scene_after_push, push_lessens)
 
 pub lower_needed : (board : Board) (boxes : Squares) (n : ℕ) → IsLower board boxes n → NeedAtLeast board boxes n
-lower_needed board boxes n lower s t ds ps scene same play solved =
-    let (m, other, le) = played board s t ds ps scene play solved in
-    let one = lower_once board boxes n m lower (subst (λ ys. IsLower board ys m) same other) in
-    omega (arith, one, le)
+lower_needed board boxes n lower s t ds ps scene same play solved = grind (arith, played, lower_once)
 
 pub lower_lessened : (board : Board) (boxes : Squares) (n : ℕ) → IsLower board boxes n → LessenByOne board boxes n
-lower_lessened board boxes n lower s t d m scene same pushes after =
-    let (k, before, le) = push_lessens board s t d m scene pushes after in
-    let one = lower_once board boxes n k lower (subst (λ ys. IsLower board ys k) same before) in
-    omega (arith, one, le)
+lower_lessened board boxes n lower s t d m scene same pushes after = grind (arith, push_lessens, lower_once)
 
 pub dead_are_lost : (board : Board) (boxes : Squares) → HaveDead board boxes → AreLost board boxes
 dead_are_lost board boxes (q, there, dead) s scene same = dead_loses_box board q dead s scene (ap (λ ys. contains ys q) same ∙ there)

@@ -18,10 +18,8 @@ free_of_frozen board boxes members q r loose frozen same blocked =
 
 -- so what dooms the boxes then doomed them before
 pub loose_dooms_nothing : (board : Board) → LooseDoomsNothing board
-loose_dooms_nothing board boxes from to safe loose (inl (q, there, dead)) = elim (contains-insert_cases (remove boxes from) to q there) [
-  | inl same ↦ loose.live (subst (IsDead board) (sym same) dead)
-  | inr left ↦ safe (inl (q, (contains-remove_parts boxes from q left).1, dead))
-]
+loose_dooms_nothing board boxes from to safe loose (inl (q, there, dead)) =
+    grind (arith, contains-insert_cases, contains-remove_parts)
 loose_dooms_nothing board boxes from to safe loose (inr (members, frozen)) =
     safe (inr (
       members,
@@ -37,7 +35,4 @@ loose_dooms_nothing board boxes from to safe loose (inr (members, frozen)) =
 
 -- a square that is not dead is of the grid
 pub live_inside : (board : Board) (q : ℕ) → ¬ (IsDead board q) → q < length board.cells
-live_inside board q live = elim (cases_lt q (length board.cells)) [
-  | inl inside ↦ inside
-  | inr beyond ↦ absurd (live (λ from. let lt = inside_grid board q (live_floor board q from) in omega (arith, lt, beyond)))
-]
+live_inside board q live = grind (arith, cases_lt, inside_grid, live_floor)

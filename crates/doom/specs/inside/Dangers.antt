@@ -23,13 +23,13 @@ IsSpared board boxes d q =
     (from : ℕ) → q ≡ next board from d → from < length board.cells → ¬ (IsDead board q) →
     IsLoose board (insert (remove boxes from) q) q
 
--- where the word at a place has no bit for a direction, a box that is pushed there so is loose
+-- where a word has no bit for a direction, a box pushed in that direction onto the square is loose
 abbrev pub TellsDanger : Board → Squares → ℕ → Danger → Type 0
 TellsDanger board boxes place danger =
     (d : Dir) (j : ℕ) → j < WORD_BITS → word_bit (danger_word d danger) j ≡ false →
     IsSpared board boxes d (WORD_BITS * place + j)
 
--- these are the dangers of the squares of the first words
+-- the list has the dangers of the squares of its words
 abbrev pub AreDangers : Board → Squares → List Danger → Type 0
 AreDangers board boxes words =
     (place : ℕ) (danger : Danger) → slice_get words place ≡ Some danger → TellsDanger board boxes place danger

@@ -19,7 +19,7 @@ abbrev pub IsHeldBy : List ℕ → ℕ → Squares → ℕ → Type 0
 IsHeldBy fast by members q = (has_bit fast q ≡ true) ⊎
     ((contains members (q + by) ≡ true) ⊎ ((p : ℕ) × (p + by ≡ q) × (contains members p ≡ true)))
 
--- it is held on both axes
+-- a box on the square is held on both axes
 abbrev pub IsHeldTwice : Holds → ℕ → Squares → ℕ → Type 0
 IsHeldTwice holds cols members q = IsHeldBy holds.across 1 members q × IsHeldBy holds.along cols members q
 
@@ -45,7 +45,7 @@ pub record AreLocked (holds : Holds) (cols : ℕ) (boxes part : Squares) : Type 
 abbrev pub TellsLocked : Holds → ℕ → Squares → Bool → Type 0
 TellsLocked holds cols boxes told = IsTrue told ↔ ((part : Squares) × AreLocked holds cols boxes part)
 
--- the boxes that hang together with the one on the square
+-- the boxes connected to the one on the square
 abbrev pub IsGroup : Board → Squares → ℕ → Squares → Type 0
 IsGroup board boxes square group = (q : ℕ) → (contains group q ≡ true) ↔ HangsWith board boxes square q
 
@@ -53,16 +53,15 @@ IsGroup board boxes square group = (q : ℕ) → (contains group q ≡ true) ↔
 abbrev pub weight : List ℕ → ℕ
 weight words = sum_by (λ w. w) words
 
--- what a look at the word at a place does to a set: each of its members there that the set does not hold goes, and no
--- other
+-- a look at one word of a set removes exactly the members in that word that the set does not hold
 pub record IsLook (holds : Holds) (cols place : ℕ) (old new : List ℕ) (went : Bool) : Type 0 where
   pub kept : (q : ℕ) → (has_bit new q ≡ true) ↔
       ((has_bit old q ≡ true) × (q / WORD_BITS ≡ place → IsHeldTwice holds cols (squares_of old) q))
   pub less : went ≡ true → weight new < weight old
   pub same : went ≡ false → new ≡ old
 
--- what a pass over the words does to a set: no member comes, and no set of members that hold one another loses one;
--- where none went, all members hold one another
+-- a pass over the words of a set adds no member, and removes none of a set of members that hold one another; if it
+-- removes none, all members hold one another
 pub record IsPass (holds : Holds) (cols : ℕ) (old new : List ℕ) (went : Bool) : Type 0 where
   pub within : AreWithin (squares_of new) (squares_of old)
   pub keeps : (others : Squares) → AreHeld holds cols others → AreWithin others (squares_of old) →

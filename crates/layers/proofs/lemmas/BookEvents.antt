@@ -22,7 +22,7 @@ use Rattle.layers.specs.Origins.{HasOrigin}
 use Rattle.layers.specs.LayerView.{LayerView, IsWhole}
 use Rattle.successors.specs.ParcelView.{ParcelView, AreSuccessors, IsParcel}
 use Rattle.layers.specs.BookView.{BookView, last_layer, InShare, IsKept, HasClosedOrigin, IsShareOfLayer, IsLawfulBook}
-use Rattle.layers.specs.Books.{MayBegin, with_begun, all_entered, with_parcel, IsAtWork, ExceedsLimit, MayEnter, with_reopened, AllDone, with_closed}
+use Rattle.layers.specs.Books.{MayBegin, with_begun, all_entered, with_parcel, IsAtWork, ExceedsLimit, MayEnter, AllDone, with_closed}
 use Rattle.layers.specs.Books.{IsSortedOpen}
 use Rattle.store.specs.Entering.{closed_entry}
 use Rattle.successors.proofs.lemmas.Lists.{at_map, map_at, Distinct, at-push, sum-set_more, count-set_true, count-all, take_short}
@@ -92,27 +92,14 @@ lawful_begin v layer book whole may =
 
 -- ---- claim, reopen
 
-pub lawful_claim : (v : BookView) (k : ℕ) → IsLawfulBook v → IsLawfulBook (record v { claimed = set v.claimed k true })
-lawful_claim v k book = record {
-  level = book.level;
-  bounds = book.bounds;
-  some = book.some;
-  closed = book.closed;
-  wholes = book.wholes;
-  whole = book.whole;
-  few = book.few;
-  begun = λ e. (let b = book.begun e in (b.0, length-set v.claimed k true ∙ b.1, b.2));
-  not_begun = λ e. (let b = book.not_begun e in (b.0, ap (λ bs. set bs k true) b.1, b.2, b.3));
-  waiting = book.waiting;
-  distinct = book.distinct;
-  fits = book.fits;
-  tallies = book.tallies;
-  within = book.within;
-  over = λ e. (let o = book.over e in (record { places = o.0.places; distinct = o.0.distinct; next = o.0.next; passed = o.0.passed }, o.1));
-}
+-- there are as many marks of either kind
+pub marks_long : (v : BookView) → IsLawfulBook v → length v.claimed ≡ length v.done
+marks_long v book = grind arith
 
-pub lawful_reopen : (v : BookView) → IsLawfulBook v → IsLawfulBook (with_reopened v)
-lawful_reopen v book = record {
+-- a book stays lawful with other claims, as many as before
+pub lawful_claimed : (v : BookView) (claimed : List Bool) → length claimed ≡ length v.claimed → IsLawfulBook v
+    → IsLawfulBook (record v { claimed = claimed })
+lawful_claimed v claimed long book = record {
   level = book.level;
   bounds = book.bounds;
   some = book.some;
@@ -120,15 +107,19 @@ lawful_reopen v book = record {
   wholes = book.wholes;
   whole = book.whole;
   few = book.few;
-  begun = λ e. (let b = book.begun e in (b.0, refl, b.2));
-  not_begun = λ e. (let b = book.not_begun e in (b.0, b.2, b.2, b.3));
+  begun = λ e. (let b = book.begun e in (b.0, long ∙ b.1, b.2));
+  not_begun = λ e. (let b = book.not_begun e in (b.0, empty claimed (long ∙ ap length b.1), b.2, b.3));
   waiting = book.waiting;
   distinct = book.distinct;
   fits = book.fits;
   tallies = book.tallies;
   within = book.within;
-  over = λ e. (let o = book.over e in (record { places = o.0.places; distinct = o.0.distinct; next = o.0.next; passed = o.0.passed }, o.1));
+  over = λ e. (let o = book.over e in (search, o.1));
 }
+  where
+    empty : (bs : List Bool) → length bs ≡ 0 → bs ≡ []
+    empty [] e = refl
+    empty (b ∷ bs) e = absurd (omega (arith, e))
 
 -- ---- hand back
 

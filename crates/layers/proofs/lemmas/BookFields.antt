@@ -1,11 +1,9 @@
 -- The events of a book on its fields: what is taken, the limit, a hand back and a close.
-use Rattle.std.proofs.Common.{◌≡◌, ℕ, suc, ◌+◌, ◌<◌, ◌≤◌, Bool, true, false, ◌&&◌, ◌==◌, not, List, [], ◌∷◌, ◌++◌, length, map, fold, get_or, set, ltb}
+use Rattle.std.proofs.Common.{◌≡◌, ℕ, suc, ◌+◌, ◌<◌, Bool, true, false, ◌&&◌, ◌==◌, not, List, [], ◌∷◌, ◌++◌, length, map, fold, get_or, set, ltb}
 use Rattle.std.proofs.Common.{Option, Some, None, inl, inr, refl, sym, ap, subst, ◌∙◌, arith}
 use Rattle.std.proofs.lemmas.Bool.{cases_lt, le-ltb}
-use Rattle.std.proofs.lemmas.Bool.Decides.{nat_tests}
 use Rattle.std.proofs.lemmas.List.{length-append, get_or-set_same, length-map}
-use Rattle.std.specs.Prelude.{is_some, slice_get, IfSome, if◌then◌else◌}
-use Rattle.std.specs.Map.{lookup}
+use Rattle.std.specs.Prelude.{slice_get, IfSome}
 use Rattle.grid.specs.declared.square.Push.{Push}
 use Rattle.grid.specs.Board.{Board, Scene}
 use Rattle.grid.specs.Lawful.{box_count}
@@ -22,7 +20,7 @@ use Rattle.store.proofs.lemmas.Fitting.{level_fits}
 use Rattle.successors.specs.ParcelView.{ParcelView, IsParcel}
 use Rattle.layers.specs.BookView.{BookView, IsLawfulBook}
 use Rattle.layers.specs.Books.{is_wanted, all_entered, with_parcel, IsAtWork, ExceedsLimit, MayEnter, IsClaimedOrDone, AllDone, with_closed, IsSortedOpen, IsClosedBy}
-use Rattle.store.specs.Entering.{is_wanted_in, entered, offered, closed_entry, RiseByOrigin, AreReordered}
+use Rattle.store.specs.Entering.{is_wanted_in, entered, closed_entry, RiseByOrigin, AreReordered}
 use Rattle.layers.proofs.lemmas.Exchange.{found}
 use Rattle.layers.specs.declared.book.Book.TheInside.{Inside}
 use Rattle.layers.specs.inside.BookInside.{book_view, cut_at, AreCuts}
@@ -35,19 +33,7 @@ use Rattle.layers.proofs.lemmas.BookEvents.{lawful_parcel, lawful_over, lawful_c
 -- once a rank is claimed, each rank up to it is taken
 pub claimed-taken : (v : BookView) (k : ℕ) → k < length v.claimed → ((r : ℕ) → r < k → IsClaimedOrDone v r) → (r : ℕ) → r < k + 1 →
     IsClaimedOrDone (record v { claimed = set v.claimed k true }) r
-claimed-taken v k lt taken r le = elim (cases_lt r k) [
-  | inl below ↦ elim (taken r below) [ inl c ↦ inl (true_kept v.claimed k r c) | inr d ↦ inr d ]
-  | inr above ↦ (let e : r ≡ k = omega arith in
-      inl (subst (λ i. get_or (set v.claimed k true) i false ≡ true) (sym e) (get_or-set_same v.claimed k true false lt)))
-]
-
--- there are as many marks of either kind
-pub marks_long : (v : BookView) → IsLawfulBook v → length v.claimed ≡ length v.done
-marks_long v book = go v.begun refl
-  where
-    go : (b : Bool) → v.begun ≡ b → length v.claimed ≡ length v.done
-    go true e = (book.begun e).1
-    go false e = ap length (book.not_begun e).1 ∙ sym (ap length (book.not_begun e).2)
+claimed-taken v k lt taken r le = grind (arith, cases_lt, true_kept, get_or-set_same)
 
 -- ---- the limit
 
@@ -60,27 +46,17 @@ pub limit_same : (a : Inside) → AreCuts a.starts.items (length a.found.seen) �
     (rank : ℕ) (ss successors : List Successor) → ss ≡ successors → (passes : Bool) →
     passes ≡ ltb a.limit (length a.found.seen + length (fold (entered (is_wanted_in a.found.seen a.shares a.share) rank) a.found.waiting ss)) →
     passes ≡ ltb now.limit (total now.closed + length (all_entered now rank successors))
-limit_same a cuts now view rank ss successors same passes e =
-    let held = sym (total-cuts a.starts.items a.found.seen cuts) in
-    let wanted = sym (wanted_same a cuts) in
-    e ∙ (λ i. ltb a.limit (held i + length (fold (entered (wanted i) rank) a.found.waiting ss)))
-    ∙ (λ i. ltb (view i).limit (total (view i).closed + length (all_entered (view i) rank (same i))))
+limit_same a cuts now view rank ss successors same passes e = grind (arith, total-cuts, found, wanted_same)
 
 -- where the new positions pass the limit, the book would hold too many
 pub over_limit : (now : BookView) (parcel : ParcelView) → true ≡ ltb now.limit (total now.closed + length (all_entered now parcel.rank parcel.successors)) →
     ExceedsLimit now parcel
-over_limit now parcel more = inr (below now.limit (total now.closed + length (all_entered now parcel.rank parcel.successors)) more)
-  where
-    below : (x y : ℕ) → true ≡ ltb x y → x < y
-    below x y h = grind (arith, nat_tests)
+over_limit now parcel more = grind arith
 
 -- and where they don't, the parcel may enter
 pub may_enter : (now : BookView) (parcel : ParcelView) → IsAtWork now parcel × (slice_get now.done parcel.rank ≡ Some false) → now.over ≡ false →
     false ≡ ltb now.limit (total now.closed + length (all_entered now parcel.rank parcel.successors)) → MayEnter now parcel
-may_enter now parcel found over less =
-    (found.0, found.1, over, not_below now.limit (total now.closed + length (all_entered now parcel.rank parcel.successors)) less) where
-      not_below : (x y : ℕ) → false ≡ ltb x y → y ≤ x
-      not_below x y h = grind (arith, nat_tests)
+may_enter now parcel found over less = grind arith
 
 -- ---- a hand back, on the fields
 
@@ -93,22 +69,14 @@ module _ (a : Inside) (book : IsLawfulBook (book_view a)) (cuts : AreCuts a.star
   pub handed_view : (worker rank tally : ℕ) (waiting : List (OpenEntry Scene Push)) → rank ≡ parcel.rank → tally ≡ get_or a.tallies.items worker 0 + 1 →
       waiting ≡ fold (entered (is_wanted_in a.found.seen a.shares a.share) parcel.rank) a.found.waiting parcel.successors →
       record (book_view a) { done = set a.done rank true; waiting = waiting; tallies = set a.tallies.items worker tally } ≡ with_parcel now worker parcel
-  handed_view worker rank tally waiting e f g =
-      let h = g ∙ ap (λ w. fold (entered w parcel.rank) a.found.waiting parcel.successors) (sym (wanted_same a cuts)) in
-      let k : tally ≡ suc (get_or a.tallies.items worker 0) = omega arith in
-      (λ i. record (book_view a) { done = set a.done (e i) true; waiting = h i; tallies = set a.tallies.items worker (k i) })
-      ∙ ap (λ v. with_parcel v worker parcel) view
+  handed_view worker rank tally waiting e f g = grind (arith, found, wanted_same)
 
   -- and is lawful
   pub handed : (worker rank tally : ℕ) (waiting : List (OpenEntry Scene Push)) → rank ≡ parcel.rank → tally ≡ get_or a.tallies.items worker 0 + 1 →
       waiting ≡ fold (entered (is_wanted_in a.found.seen a.shares a.share) parcel.rank) a.found.waiting parcel.successors →
       worker < a.workers → a.over ≡ false → (false ≡ ltb now.limit (total now.closed + length (all_entered now parcel.rank parcel.successors))) →
       IsLawfulBook (record (book_view a) { done = set a.done rank true; waiting = waiting; tallies = set a.tallies.items worker tally })
-  handed worker rank tally waiting e f g lt over below =
-      let may : MayEnter (book_view a) parcel = subst (λ v. MayEnter v parcel) (sym view)
-      (may_enter now parcel found (ap (λ (v : BookView). v.over) (sym view) ∙ over) below) in
-      subst IsLawfulBook (sym (handed_view worker rank tally waiting e f g ∙ ap (λ v. with_parcel v worker parcel) (sym view)))
-      (lawful_parcel (book_view a) worker parcel book lt is may)
+  handed worker rank tally waiting e f g lt over below = grind (arith, may_enter, found, handed_view, lawful_parcel)
 
   -- where the limit is passed the book is over
   pub over_lawful : (true ≡ ltb now.limit (total now.closed + length (all_entered now parcel.rank parcel.successors))) →
@@ -137,25 +105,13 @@ pub none_entered : (seen : List Closed) (shares share rank k : ℕ) (ss : List S
     share_places shares share k (map (λ s. scene_sum s.position) ss) ≡ [] → fold (entered (is_wanted_in seen shares share) rank) waiting ss ≡ waiting
 none_entered seen shares share rank k [] waiting none = refl
 none_entered seen shares share rank k (s ∷ ss) waiting none =
-    go (none_entered seen shares share rank (suc k) ss waiting) (share_of shares s.position == share) none
-  where
-    later : List ℕ
-    later = share_places shares share (suc k) (map (λ s. scene_sum s.position) ss)
-
-    go : (later ≡ [] → fold (entered (is_wanted_in seen shares share) rank) waiting ss ≡ waiting) → (b : Bool) → (if b then k ∷ later else later) ≡ [] →
-        fold (entered (is_wanted_in seen shares share) rank) (if b && not (is_some (lookup (same_scene s.position) seen)) then offered waiting s.position
-        (rank, s.push) else waiting) ss ≡ waiting
-    go rest true none = cc
-    go rest false none = rest none
+    grind (arith, none_entered seen shares share rank (suc k) ss waiting)
 
 -- where nothing enters, the limit is not passed
 pub nothing_passes : (a : Inside) → IsLawfulBook (book_view a) → AreCuts a.starts.items (length a.found.seen) → (now : BookView) → book_view a ≡ now →
     (rank : ℕ) (ss : List Successor) → fold (entered (is_wanted_in a.found.seen a.shares a.share) rank) a.found.waiting ss ≡ a.found.waiting →
     false ≡ ltb now.limit (total now.closed + length (all_entered now rank ss))
-nothing_passes a book cuts now view rank ss same =
-    limit_same a cuts now view rank ss ss refl false
-    (sym (le-ltb a.limit (length a.found.seen + length (fold (entered (is_wanted_in a.found.seen a.shares a.share) rank) a.found.waiting ss))
-    (omega (arith, book.within, total-cuts a.starts.items a.found.seen cuts, ap length same))))
+nothing_passes a book cuts now view rank ss same = grind (arith, limit_same, le-ltb, found, total-cuts)
 
 pub first_fits : (board : Board) (boxes squares : ℕ) (first : Option Scene) → boxes ≡ box_count board → squares ≡ length board.cells →
     IfSome first (FitsLevel board) → IfSome first (FitsGrid boxes squares)
@@ -188,11 +144,7 @@ module _ (a : Inside) (book : IsLawfulBook (book_view a)) (cuts : AreCuts a.star
     -- the book after a close is a function of the one before and the sorted entries
     pub closed_view : record (book_view a) { closed = cut_at starts seen; begun = false; claimed = claimed; done = done; waiting = waiting } ≡ with_closed
         (book_view a) (map closed_entry ys)
-    closed_view =
-        let e : cut_at starts seen ≡ cut_at a.starts.items a.found.seen ++ map closed_entry ys ∷ [] =
-        (λ i. cut_at ((starts_are ∙ ap (λ k. a.starts.items ++ k ∷ []) n_is) i) (seen_are i))
-        ∙ cut_push a.starts.items a.found.seen (map closed_entry ys) cuts in
-        λ i. record (book_view a) { closed = e i; begun = false; claimed = no_claims i; done = none_done i; waiting = none_waits i }
+    closed_view = grind (arith, found, cut_push)
 
     pub closed_lawful : IsLawfulBook (record (book_view a) { closed = cut_at starts seen; begun = false; claimed = claimed; done = done; waiting = waiting })
     closed_lawful = subst IsLawfulBook (sym closed_view) (lawful_closed (book_view a) (map closed_entry ys) book all sorted_open)
@@ -209,14 +161,4 @@ module _ (a : Inside) (book : IsLawfulBook (book_view a)) (cuts : AreCuts a.star
         IsClosedBy now (record { layer = layer; count = count })
         (record (book_view a) { closed = cut_at starts seen; begun = false; claimed = claimed; done = done; waiting = waiting })
     closed_by now view layer count layer_is count_is =
-        subst (λ v. IsClosedBy v (record { layer = layer; count = count })
-        (record (book_view a) { closed = cut_at starts seen; begun = false; claimed = claimed; done = done; waiting = waiting })) view (
-          all,
-          (
-            map closed_entry ys,
-            sorted_open,
-            closed_view,
-            layer_is ∙ sym (length-cut_at a.starts.items a.found.seen),
-            count_is ∙ sym same.0 ∙ sym (length-map ys closed_entry),
-          ),
-        )
+        grind (arith, sorted_open, closed_view, length-cut_at, found, length-map)

@@ -59,9 +59,7 @@ module _ (v : BookView) (book : IsLawfulBook v) (begun : v.begun ≡ true) where
 
   -- the layers up to the last closed one are known whole
   pub whole_layers : (j : ℕ) → j ≤ last_layer v → IsLayerOf v.level j (whole_layer j)
-  whole_layers j le =
-      let long = (book.begun begun).0 in let some = book.some in
-      book.whole j (whole_layer j) (read_at book.wholes j (omega arith))
+  whole_layers j le = grind (arith, read_at)
 
   -- what is in a closed list is in the layer
   pub closed-layer : (m : Scene) → is_closed v.closed m ≡ true → (j : ℕ) × (j ≤ last_layer v) × IsIn (whole_layer j) m
@@ -183,11 +181,7 @@ module _ (v : BookView) (book : IsLawfulBook v) (begun : v.begun ≡ true) where
 
 -- a book that has marks has begun
 pub begun-since : (v : BookView) → IsLawfulBook v → (r : ℕ) → r < length v.done → v.begun ≡ true
-begun-since v book r lt = go v.begun refl
-  where
-    go : (b : Bool) → v.begun ≡ b → v.begun ≡ true
-    go true e = e
-    go false e = absurd (omega (arith, ap length (book.not_begun e).2))
+begun-since v book r lt = grind arith
 
 -- a layer has no more ranks than all books may hold
 pub few_ranks : (v : BookView) → IsLawfulBook v → (r : ℕ) → r < length v.done → r < MOST_POSITIONS

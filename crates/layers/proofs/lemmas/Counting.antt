@@ -64,16 +64,8 @@ pub total-front : {A : Type 0} (n : ℕ) (xss : List (List A)) → ((j : ℕ) (x
     total xss ≡ total (take n xss)
 total-front zero [] empty = refl
 total-front (suc n) [] empty = refl
-total-front zero (xs ∷ xss) empty = omega (
-  arith,
-  sum_by_first length xs xss,
-  empty zero xs (omega arith) refl,
-  total-front zero xss (λ j ys le at_j. empty (suc j) ys (omega arith) at_j),
-  none xss,
-) where
-  none : {A : Type 0} (yss : List (List A)) → total (take zero yss) ≡ 0
-  none [] = refl
-  none (ys ∷ yss) = refl
+total-front zero (xs ∷ xss) empty =
+    grind (arith, total-front zero xss (λ j ys le at_j. empty (suc j) ys (omega arith) at_j))
 total-front (suc n) (xs ∷ xss) empty = omega (
   arith,
   sum_by_first length xs xss,

@@ -108,16 +108,7 @@ module _ {N P : Type 0} {cmp : P → P → Ordering} {Reach : List P → N → T
     pub entry_lead : (i : ℕ) (m : N) (r : ℕ) (p : P) → slice_get ys i ≡ Some (m, (r, p)) → (n : N) (ps : List P) → slice_get (layer k) r ≡ Some n →
         IsLead cmp Reach n ps → length ps ≡ k → IsLead cmp Reach m (ps ++ p ∷ [])
     entry_lead i m r p at n ps at_r lead long =
-        let parent = (next.from i m r p at).1 in
-        let e : parent.0 ≡ n = same_Some parent.0 n (sym parent.1 ∙ at_r) in
-        let len : length (ps ++ p ∷ []) ≡ suc k = omega (arith, length-append ps (p ∷ [])) in
-        record {
-          reached = laws.grow ps n p m lead.reached (subst (λ x. Edge x p m) e parent.2);
-          least = λ qs reach. elim (cases_lt (suc k) (length qs)) [
-            | inl lt ↦ shortlex_shorter cmp (ps ++ p ∷ []) qs (omega arith)
-            | inr ge ↦ entry_least i m r p at n ps at_r lead long qs reach (omega (arith, not_sooner i m r p at qs reach))
-          ];
-        }
+        grind (arith, same_Some, length-append, cases_lt, shortlex_shorter, entry_least, not_sooner)
 
     -- the origins of two entries, the first before the second, give leads in that order
     entries_rise : (i j : ℕ) (x y : OpenEntry N P) → i < j → slice_get ys i ≡ Some x → slice_get ys j ≡ Some y → (ps qs : List P) → IsLead cmp Reach x.0 ps →

@@ -9,7 +9,7 @@ use Rattle.std.specs.Cmp.Lexicographic.{slice_cmp, lists_total}
 use Rattle.successors.specs.Layered.{IsIn, IsLead, IsLayer}
 use Rattle.layers.specs.Openings.{IsLayered}
 use Rattle.successors.proofs.lemmas.Lists.{Rises, same_lists}
-use Rattle.layers.proofs.lemmas.Exchange.{lead-length, lead_unique}
+use Rattle.layers.proofs.lemmas.Exchange.{lead_unique}
 
 -- a layer is one too where its part is told in other words
 pub recut : {N P : Type 0} {cmp : P → P → Ordering} {Reach : List P → N → Type 0} {Part Other : ℕ → N → Type 0} (k : ℕ) (xs : List N) →
@@ -25,10 +25,7 @@ module _ {N P : Type 0} {cmp : P → P → Ordering} {Reach : List P → N → T
   -- a place whose lead has length k is in layer k, however the layer is cut down, if it is of the part
   pub member : {Part : ℕ → N → Type 0} (k : ℕ) (xs : List N) → IsLayer cmp Reach Part k xs → (m : N) (ps : List P) → IsLead cmp Reach m ps → length ps ≡ k →
       Part k m → IsIn xs m
-  member k xs layer m ps lead long part = elim (layer.whole ps m lead.reached long part) [
-    | inl within ↦ within
-    | inr w ↦ absurd (omega (arith, w.2, lead-length laws m ps w.0 lead w.1))
-  ]
+  member k xs layer m ps lead long part = grind arith
 
   -- the place has an earlier lead than the other
   abbrev Before : N → N → Type 0

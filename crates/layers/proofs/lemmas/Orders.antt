@@ -1,10 +1,10 @@
 -- Lists of pushes: the shorter comes first, and of two lists of one length the fronts decide first.
-use Rattle.std.proofs.Common.{◌≡◌, ℕ, ◌<◌, ◌≤◌, false, List, [], ◌∷◌, ◌++◌, length, refl, sym, ap, ◌∙◌, ◌⊎◌, inl, inr, arith}
+use Rattle.std.proofs.Common.{◌≡◌, ℕ, ◌<◌, ◌≤◌, false, List, [], ◌∷◌, ◌++◌, length, refl, ap, ◌⊎◌, inl, inr, arith}
 use Rattle.std.proofs.lemmas.Bool.Decides.{nat_tests}
 use Rattle.std.proofs.lemmas.Bool.{cases_lt}
 use Rattle.std.specs.declared.cmp.Ordering.{Ordering}
 use Rattle.std.specs.declared.cmp.Ordering.TheVariants.{Less, Equal, Greater}
-use Rattle.std.specs.Ordering.{nat_cmp, ordering_then, ordering_reverse, is_gt}
+use Rattle.std.specs.Ordering.{nat_cmp, ordering_then, is_gt}
 use Rattle.std.specs.Cmp.{IsTotalOrder}
 use Rattle.std.specs.Cmp.Lexicographic.{slice_cmp}
 use Rattle.grid.specs.Plays.{shortlex}
@@ -12,33 +12,17 @@ use Rattle.grid.specs.Plays.{shortlex}
 -- the pushes before the last decide first
 pub slice_cmp-snoc : {P : Type 0} (cmp : P → P → Ordering) (ps qs : List P) (p q : P) → length ps ≡ length qs →
     slice_cmp cmp (ps ++ p ∷ []) (qs ++ q ∷ []) ≡ ordering_then (slice_cmp cmp ps qs) (cmp p q)
-slice_cmp-snoc cmp [] [] p q e = then-Equal (cmp p q)
-  where
-    then-Equal : (o : Ordering) → ordering_then o Equal ≡ o
-    then-Equal Less = refl
-    then-Equal Equal = refl
-    then-Equal Greater = refl
+slice_cmp-snoc cmp [] [] p q e = grind arith
 slice_cmp-snoc cmp [] (y ∷ qs) p q e = absurd (omega arith)
 slice_cmp-snoc cmp (x ∷ ps) [] p q e = absurd (omega arith)
-slice_cmp-snoc cmp (x ∷ ps) (y ∷ qs) p q e =
-    ap (λ o. ordering_then (cmp x y) o) (slice_cmp-snoc cmp ps qs p q (omega arith)) ∙ then-then (cmp x y) (slice_cmp cmp ps qs) (cmp p q)
-  where
-    then-then : (a b c : Ordering) → ordering_then a (ordering_then b c) ≡ ordering_then (ordering_then a b) c
-    then-then Less b c = refl
-    then-then Equal b c = refl
-    then-then Greater b c = refl
+slice_cmp-snoc cmp (x ∷ ps) (y ∷ qs) p q e = grind (arith, slice_cmp-snoc cmp ps qs p q (omega arith))
 
 -- lists that compare as equal are equal
 pub slice_cmp_exact : {P : Type 0} (cmp : P → P → Ordering) → ((p q : P) → cmp p q ≡ Equal → p ≡ q) → (ps qs : List P) → slice_cmp cmp ps qs ≡ Equal → ps ≡ qs
 slice_cmp_exact cmp exact [] [] e = refl
 slice_cmp_exact cmp exact [] (y ∷ qs) e = cc
 slice_cmp_exact cmp exact (x ∷ ps) [] e = cc
-slice_cmp_exact cmp exact (x ∷ ps) (y ∷ qs) e = both (cmp x y) refl e (slice_cmp_exact cmp exact ps qs)
-  where
-    both : (o : Ordering) → cmp x y ≡ o → ordering_then o (slice_cmp cmp ps qs) ≡ Equal → (slice_cmp cmp ps qs ≡ Equal → ps ≡ qs) → (x ∷ ps) ≡ (y ∷ qs)
-    both Less h f t = cc
-    both Equal h f t = let a = exact x y h in let b = t f in cc
-    both Greater h f t = cc
+slice_cmp_exact cmp exact (x ∷ ps) (y ∷ qs) e = grind (arith, slice_cmp_exact cmp exact ps qs)
 
 -- of two lists the first of which is no later, it is no longer
 pub shortlex-length : {P : Type 0} (cmp : P → P → Ordering) (ps qs : List P) → is_gt (shortlex cmp ps qs) ≡ false → length ps ≤ length qs
@@ -52,12 +36,7 @@ shortlex_same cmp ps qs h = grind (arith, nat_tests)
 
 -- what is before b is before whatever b is no later than
 pub less_upto : {K : Type 0} {R : K → K → Ordering} → IsTotalOrder R → (a b c : K) → R a b ≡ Less → is_gt (R b c) ≡ false → R a c ≡ Less
-less_upto {K} {R} total a b c h g = go (R b c) refl g
-  where
-    go : (o : Ordering) → R b c ≡ o → is_gt o ≡ false → R a c ≡ Less
-    go Less e f = total.trans a b c h e
-    go Equal e f = (total.antisymm a c ∙ ap ordering_reverse (sym (total.congr b c a e))) ∙ (sym (total.antisymm a b) ∙ h)
-    go Greater e f = cc
+less_upto {K} {R} total a b c h g = grind arith
 
 -- two that are no later, one after the other
 pub then_upto : (a b : Ordering) → is_gt a ≡ false → is_gt b ≡ false → is_gt (ordering_then a b) ≡ false

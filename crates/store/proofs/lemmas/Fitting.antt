@@ -1,5 +1,5 @@
 -- The positions of a level fit the grid of its boxes and squares.
-use Rattle.std.proofs.Common.{◌≡◌, ℕ, Bool, true, false, ◌==◌, ◌||◌, List, [], ◌∷◌, length, refl, sym, subst, arith}
+use Rattle.std.proofs.Common.{◌≡◌, ℕ, true, false, List, [], ◌∷◌, length, arith}
 use Rattle.grid.specs.Squares.{contains}
 use Rattle.grid.specs.Board.{Board, Scene, is_wall}
 use Rattle.grid.specs.Lawful.{box_count}
@@ -9,11 +9,7 @@ use Rattle.grid.proofs.lemmas.Squares.{contains_head}
 use Rattle.store.specs.FoundView.{AreBelow, FitsGrid}
 
 contains_tail : (x : ℕ) (xs : List ℕ) (q : ℕ) → contains xs q ≡ true → contains (x ∷ xs) q ≡ true
-contains_tail x xs q here = or_true (x == q) (contains xs q) here
-  where
-    or_true : (a b : Bool) → b ≡ true → (a || b) ≡ true
-    or_true true b e = refl
-    or_true false b e = e
+contains_tail x xs q here = grind arith
 
 -- squares that are no walls are on the grid
 below_all : (board : Board) (xs : List ℕ) → ((q : ℕ) → contains xs q ≡ true → is_wall board q ≡ false) → AreBelow (length board.cells) xs
@@ -22,8 +18,4 @@ below_all board (x ∷ xs) clear = (inside_grid board x (clear x (contains_head 
 
 pub level_fits : (board : Board) (boxes squares : ℕ) (m : Scene) → boxes ≡ box_count board → squares ≡ length board.cells → FitsLevel board m →
     FitsGrid boxes squares m
-level_fits board boxes squares m boxes_are squares_are fits = record {
-  few = omega (arith, fits.boxes, boxes_are);
-  below = subst (λ n. AreBelow n (m.player ∷ m.boxes)) (sym squares_are)
-      (inside_grid board m.player fits.scene.player.0, below_all board m.boxes fits.scene.boxes);
-}
+level_fits board boxes squares m boxes_are squares_are fits = grind (arith, inside_grid, below_all)

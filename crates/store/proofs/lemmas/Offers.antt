@@ -1,10 +1,10 @@
 -- Positions that are offered to the open entries, one after the other.
 use Rattle.std.proofs.Common.{◌≡◌, ℕ, zero, suc, ◌+◌, Bool, true, false, cond, ◌&&◌, ◌||◌, fold, nat_eq, ◌==◌, List, [], ◌∷◌, ◌++◌, length, map, Option, Some}
-use Rattle.std.proofs.Common.{None, is_some, Result, Ok, Err, IsOk, not, refl, sym, ap, subst, ◌∙◌, if◌then◌else◌, arith}
+use Rattle.std.proofs.Common.{None, is_some, not, refl, sym, ap, subst, ◌∙◌, if◌then◌else◌, arith}
 use Rattle.std.proofs.lemmas.Option.{same_Some, none-some}
 use Rattle.std.proofs.lemmas.Bool.Decides.{nat_tests}
 use lib.Pointwise.{pointwise, bytes_decides}
-use Rattle.std.specs.Prelude.{slice_get, OnOk}
+use Rattle.std.specs.Prelude.{slice_get}
 use Rattle.grid.specs.declared.square.Push.{Push}
 use Rattle.indexmap.specs.IndexMap.{insert_entry}
 use Rattle.std.specs.Ordering.{is_lt}
@@ -12,7 +12,7 @@ use Rattle.grid.specs.Board.{Scene, push_cmp}
 use Rattle.successors.specs.Layered.{IsIn}
 use Rattle.store.specs.Entries.{Origin, origin_cmp, OpenEntry, lesser, same_scene, origin_of}
 use Rattle.successors.specs.declared.parcel.Successor.{Successor}
-use Rattle.store.specs.Entering.{AreWanted, offered, entered}
+use Rattle.store.specs.Entering.{offered, entered}
 use Rattle.std.proofs.lemmas.List.{length-append, length-map}
 use Rattle.std.specs.List.{list_any}
 use Rattle.store.proofs.lemmas.Origins.{best}
@@ -41,22 +41,12 @@ pub same_since : (m n : Scene) → m ≡ n → same_scene m n ≡ true
 same_since m n e = subst (λ x. same_scene m x ≡ true) e (same_itself m)
 
 pub same_flipped : (m n : Scene) → same_scene m n ≡ same_scene n m
-same_flipped m n = go (same_scene m n) refl (same_scene n m) refl
-  where
-    go : (a : Bool) → same_scene m n ≡ a → (b : Bool) → same_scene n m ≡ b → same_scene m n ≡ same_scene n m
-    go true e b f = e ∙ sym (same_since n m (sym (same_true m n e)))
-    go false e true f = same_since m n (sym (same_true n m f)) ∙ sym f
-    go false e false f = e ∙ sym f
+same_flipped m n = grind (arith, same_since, same_true)
 
 -- what an offered position is open with
 pub origin_of-offered : (es : List (OpenEntry Scene Push)) (m : Scene) (o : Origin Push) → origin_of (offered es m o) m ≡ Some (best push_cmp (origin_of es m) o)
 origin_of-offered [] m o = ap (λ b. cond b (Some o) None) (same_itself m)
-origin_of-offered (e ∷ es) m o = go (same_scene m e.0) refl (origin_of-offered es m o)
-  where
-    go : (b : Bool) → same_scene m e.0 ≡ b → origin_of (offered es m o) m ≡ Some (best push_cmp (origin_of es m) o) →
-        origin_of (if b then (e.0, lesser push_cmp e.1 o) ∷ es else e ∷ offered es m o) m ≡ Some (best push_cmp (cond b (Some e.1) (origin_of es m)) o)
-    go true f t = ap (λ b. cond b (Some (lesser push_cmp e.1 o)) (origin_of es m)) f
-    go false f t = ap (λ b. cond b (Some e.1) (origin_of (offered es m o) m)) f ∙ t
+origin_of-offered (e ∷ es) m o = grind (arith, origin_of-offered es m o)
 
 -- each other position is open as before
 pub origin_of-other : (es : List (OpenEntry Scene Push)) (m n : Scene) (o : Origin Push) → same_scene n m ≡ false → origin_of (offered es m o) n ≡ origin_of es n
@@ -87,11 +77,7 @@ origin-listed (x ∷ es) m o e = go (same_scene m x.0) refl e (origin-listed es 
 pub unlisted : (es : List (OpenEntry Scene Push)) (m : Scene) → origin_of es m ≡ None → ¬ (IsIn (open_places es) m)
 unlisted [] m e w = none-some m w.1
 unlisted (x ∷ es) m e (zero, at) = let h = same_since m x.0 (sym (same_Some x.0 m at)) in none-some x.1 (sym e ∙ ap (λ b. cond b (Some x.1) (origin_of es m)) h)
-unlisted (x ∷ es) m e (suc i, at) = go (same_scene m x.0) e (unlisted es m)
-  where
-    go : (b : Bool) → cond b (Some x.1) (origin_of es m) ≡ None → (origin_of es m ≡ None → ¬ (IsIn (open_places es) m)) → ⊥
-    go true f t = none-some x.1 (sym f)
-    go false f t = t f (i, at)
+unlisted (x ∷ es) m e (suc i, at) = grind (arith, unlisted es m)
 
 -- what stands at a place is what is found, where no position stands twice
 pub listed-origin : (es : List (OpenEntry Scene Push)) → Distinct (open_places es) → (i : ℕ) (m : Scene) (o : Origin Push) → slice_get es i ≡ Some (m, o) →
@@ -114,30 +100,14 @@ listed-origin es distinct i m o at = go (origin_of es m) refl
 -- an offered position comes last if it is new, and changes no place otherwise
 offered-new : (es : List (OpenEntry Scene Push)) (m : Scene) (o : Origin Push) → origin_of es m ≡ None → open_places (offered es m o) ≡ open_places es ++ m ∷ []
 offered-new [] m o e = refl
-offered-new (x ∷ es) m o e = go (same_scene m x.0) refl e (offered-new es m o)
-  where
-    go : (b : Bool) → same_scene m x.0 ≡ b → cond b (Some x.1) (origin_of es m) ≡ None →
-        (origin_of es m ≡ None → open_places (offered es m o) ≡ open_places es ++ m ∷ []) →
-        open_places (if b then (x.0, lesser push_cmp x.1 o) ∷ es else x ∷ offered es m o) ≡ x.0 ∷ (open_places es ++ m ∷ [])
-    go true f g t = absurd (none-some x.1 (sym g))
-    go false f g t = ap (λ xs. x.0 ∷ xs) (t g)
+offered-new (x ∷ es) m o e = grind (arith, offered-new es m o)
 
 offered-present : (es : List (OpenEntry Scene Push)) (m : Scene) (o p : Origin Push) → origin_of es m ≡ Some p → open_places (offered es m o) ≡ open_places es
 offered-present [] m o p e = cc
-offered-present (x ∷ es) m o p e = go (same_scene m x.0) refl e (offered-present es m o p)
-  where
-    go : (b : Bool) → same_scene m x.0 ≡ b → cond b (Some x.1) (origin_of es m) ≡ Some p →
-        (origin_of es m ≡ Some p → open_places (offered es m o) ≡ open_places es) →
-        open_places (if b then (x.0, lesser push_cmp x.1 o) ∷ es else x ∷ offered es m o) ≡ x.0 ∷ open_places es
-    go true f g t = refl
-    go false f g t = ap (λ xs. x.0 ∷ xs) (t g)
+offered-present (x ∷ es) m o p e = grind (arith, offered-present es m o p)
 
 pub offered-distinct : (es : List (OpenEntry Scene Push)) (m : Scene) (o : Origin Push) → Distinct (open_places es) → Distinct (open_places (offered es m o))
-offered-distinct es m o distinct = go (origin_of es m) refl
-  where
-    go : (found : Option (Origin Push)) → origin_of es m ≡ found → Distinct (open_places (offered es m o))
-    go None e = subst Distinct (sym (offered-new es m o e)) (distinct_push (open_places es) m distinct (unlisted es m e))
-    go (Some p) e = subst Distinct (sym (offered-present es m o p e)) distinct
+offered-distinct es m o distinct = grind (arith, offered-new, distinct_push, unlisted, offered-present)
 
 -- what holds of each place and of the offered position holds of each place after
 pub offered-each : (P : Scene → Type 0) (es : List (OpenEntry Scene Push)) (m : Scene) (o : Origin Push) → P m → ((n : Scene) → IsIn (open_places es) n → P n) →
@@ -160,12 +130,7 @@ offered-each P es m o here each n = go (origin_of es m) refl
 pub offered-kept : (es : List (OpenEntry Scene Push)) (m : Scene) (o a : Origin Push) → origin_of es m ≡ Some a → is_lt (origin_cmp push_cmp o a) ≡ false →
     offered es m o ≡ es
 offered-kept [] m o a e f = cc
-offered-kept (x ∷ es) m o a e f = go (same_scene m x.0) e (offered-kept es m o a)
-  where
-    go : (b : Bool) → cond b (Some x.1) (origin_of es m) ≡ Some a → (origin_of es m ≡ Some a → is_lt (origin_cmp push_cmp o a) ≡ false → offered es m o ≡ es) →
-        (if b then (x.0, lesser push_cmp x.1 o) ∷ es else x ∷ offered es m o) ≡ x ∷ es
-    go true h t = let k = ap (λ y. is_lt (origin_cmp push_cmp o y)) (same_Some x.1 a h) ∙ f in λ i. (x.0, if k i then o else x.1) ∷ es
-    go false h t = ap (λ ys. x ∷ ys) (t h f)
+offered-kept (x ∷ es) m o a e f = grind (arith, offered-kept es m o a)
 
 -- a lesser offer, or one of a new position, is what an insert leaves
 pub offered-less : (es : List (OpenEntry Scene Push)) (m : Scene) (o a : Origin Push) → origin_of es m ≡ Some a → is_lt (origin_cmp push_cmp o a) ≡ true →
@@ -181,16 +146,7 @@ offered-less (x ∷ es) m o a e f = go (same_scene m x.0) e (offered-less es m o
 
 pub offered_first : (es : List (OpenEntry Scene Push)) (m : Scene) (o : Origin Push) → origin_of es m ≡ None → insert_entry same_scene es m o ≡ offered es m o
 offered_first [] m o e = refl
-offered_first (x ∷ es) m o e = go (same_scene m x.0) e (offered_first es m o)
-  where
-    go : (b : Bool) → cond b (Some x.1) (origin_of es m) ≡ None → (origin_of es m ≡ None → insert_entry same_scene es m o ≡ offered es m o) →
-        (if b then (x.0, o) ∷ es else x ∷ insert_entry same_scene es m o) ≡ (if b then (x.0, lesser push_cmp x.1 o) ∷ es else x ∷ offered es m o)
-    go true h t = absurd (none-some x.1 (sym h))
-    go false h t = ap (λ ys. x ∷ ys) (t h)
-
-pub on_ok : {T E : Type 0} {P : Type 0} (r : Result T E) → IsOk r → OnOk r P → P
-on_ok (Ok x) is h = h
-on_ok (Err e) is h = cc
+offered_first (x ∷ es) m o e = grind (arith, offered_first es m o)
 
 -- ---- how many positions are new
 
@@ -215,61 +171,14 @@ length-offered es m o = go (origin_of es m) refl
 -- a wanted position is open after a successor has entered if it was before or is the successor's
 open-entered : (wanted : Scene → Bool) (rank : ℕ) (es : List (OpenEntry Scene Push)) (s : Successor) (m : Scene) → wanted m ≡ true →
     is_some (origin_of (entered wanted rank es s) m) ≡ (is_some (origin_of es m) || same_scene s.position m)
-open-entered wanted rank es s m want = go (same_scene s.position m) refl
-  where
-    or_true : (b : Bool) → (b || true) ≡ true
-    or_true true = refl
-    or_true false = refl
-
-    or_false : (b : Bool) → (b || false) ≡ b
-    or_false true = refl
-    or_false false = refl
-
-    there : s.position ≡ m → is_some (origin_of (entered wanted rank es s) m) ≡ true
-    there e = subst (λ x. is_some (origin_of (entered wanted rank es s) x) ≡ true) e
-        (ap (λ b. is_some (origin_of (if b then offered es s.position (rank, s.push) else es) s.position)) (ap wanted e ∙ want) ∙
-        ap is_some (origin_of-offered es s.position (rank, s.push)))
-
-    other : same_scene m s.position ≡ false → (b : Bool) → is_some (origin_of (if b then offered es s.position (rank, s.push) else es) m) ≡
-        is_some (origin_of es m)
-    other e true = ap is_some (origin_of-other es s.position m (rank, s.push) e)
-    other e false = refl
-
-    apart : (b : Bool) → same_scene m s.position ≡ b → same_scene s.position m ≡ false → same_scene m s.position ≡ false
-    apart true e f = let h = same_since s.position m (sym (same_true m s.position e)) in cc
-    apart false e f = e
-
-    go : (b : Bool) → same_scene s.position m ≡ b → is_some (origin_of (entered wanted rank es s) m) ≡ (is_some (origin_of es m) || b)
-    go true e = there (same_true s.position m e) ∙ sym (or_true (is_some (origin_of es m)))
-    go false e = other (apart (same_scene m s.position) refl e) (wanted s.position) ∙ sym (or_false (is_some (origin_of es m)))
-
--- open entries are wanted after a successor has entered, if they were before
-pub entered_wanted : (wanted : Scene → Bool) (rank : ℕ) (es : List (OpenEntry Scene Push)) (s : Successor) → AreWanted wanted es →
-    AreWanted wanted (entered wanted rank es s)
-entered_wanted wanted rank es s are m there = go (wanted s.position) refl (same_scene m s.position) refl there
-  where
-    go : (a : Bool) → wanted s.position ≡ a → (b : Bool) → same_scene m s.position ≡ b →
-        is_some (origin_of (if a then offered es s.position (rank, s.push) else es) m) ≡ true → wanted m ≡ true
-    go true want true e f = ap wanted (same_true m s.position e) ∙ want
-    go true want false e f = are m (ap is_some (sym (origin_of-other es s.position m (rank, s.push) e)) ∙ f)
-    go false want b e f = are m f
+open-entered wanted rank es s m want = grind (arith, origin_of-offered, origin_of-other, same_since, same_true)
 
 -- after some have entered, if it was before or is one of theirs
 pub open-after : (wanted : Scene → Bool) (rank : ℕ) (ss : List Successor) (es : List (OpenEntry Scene Push)) (m : Scene) → wanted m ≡ true →
     is_some (origin_of (fold (entered wanted rank) es ss) m) ≡ (is_some (origin_of es m) || list_any (λ s. same_scene s.position m) ss)
-open-after wanted rank [] es m want = or_false (is_some (origin_of es m))
-  where
-    or_false : (b : Bool) → b ≡ (b || false)
-    or_false true = refl
-    or_false false = refl
+open-after wanted rank [] es m want = grind arith
 open-after wanted rank (s ∷ ss) es m want =
-    open-after wanted rank ss (entered wanted rank es s) m want ∙
-    ap (λ b. b || list_any (λ t. same_scene t.position m) ss) (open-entered wanted rank es s m want)
-    ∙ or_or (is_some (origin_of es m)) (same_scene s.position m) (list_any (λ t. same_scene t.position m) ss)
-  where
-    or_or : (a b c : Bool) → ((a || b) || c) ≡ (a || (b || c))
-    or_or true b c = refl
-    or_or false b c = refl
+    grind (arith, open-after wanted rank ss (entered wanted rank es s) m want, open-entered)
 
 -- one more successor enters after the others
 pub entered_more : (wanted : Scene → Bool) (rank : ℕ) (ss : List Successor) (es : List (OpenEntry Scene Push)) (s : Successor) →
@@ -281,18 +190,4 @@ entered_more wanted rank (t ∷ ss) es s = entered_more wanted rank ss (entered 
 pub length-entered : (wanted : Scene → Bool) (rank : ℕ) (ss : List Successor) (es : List (OpenEntry Scene Push)) (s : Successor) →
     length (fold (entered wanted rank) es (ss ++ s ∷ [])) ≡ length (fold (entered wanted rank) es ss) + cond (wanted s.position &&
     not (is_some (origin_of es s.position) || list_any (λ t. same_scene t.position s.position) ss)) 1 0
-length-entered wanted rank ss es s = ap length (entered_more wanted rank ss es s) ∙ go (wanted s.position) refl
-  where
-    flip : (b : Bool) → ◌≡◌ {A = ℕ} (cond b 0 1) (cond (not b) 1 0)
-    flip true = refl
-    flip false = refl
-
-    go : (b : Bool) → wanted s.position ≡ b →
-        length (if b then offered (fold (entered wanted rank) es ss) s.position (rank, s.push) else fold (entered wanted rank) es ss) ≡
-        length (fold (entered wanted rank) es ss) + cond (b &&
-        not (is_some (origin_of es s.position) || list_any (λ t. same_scene t.position s.position) ss)) 1 0
-    go true e =
-        length-offered (fold (entered wanted rank) es ss) s.position (rank, s.push)
-        ∙ ap (λ n. length (fold (entered wanted rank) es ss) + n) (flip (is_some (origin_of (fold (entered wanted rank) es ss) s.position)) ∙
-        ap {B = ℕ} (λ b. cond (not b) 1 0) (open-after wanted rank ss es s.position e))
-    go false e = omega arith
+length-entered wanted rank ss es s = grind (arith, entered_more, length-offered, open-after)

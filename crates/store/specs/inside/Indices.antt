@@ -10,7 +10,7 @@ use Rattle.store.specs.Entries.{Closed, OpenEntry}
 abbrev pub HasKeyAt : List Closed → ℕ → Scene → Type 0
 HasKeyAt es place m = slice_get (keys_of es) place ≡ Some m
 
--- so it is, unless the index is NOWHERE
+-- the index is that of the position's entry, or NOWHERE
 abbrev pub IsIndexOf : List Closed → ℕ → Scene → Type 0
 IsIndexOf es place m = place ≢ NOWHERE → HasKeyAt es place m
 

@@ -1,19 +1,19 @@
 -- Successors that are dealt to the shares.
-use Rattle.std.proofs.Common.{◌≡◌, ◌≢◌, ℕ, zero, suc, ◌+◌, ◌-◌, ◌*◌, ◌%◌, ◌<◌, ◌≤◌, ◌==◌, Bool, true, false, List, [], ◌∷◌, ◌++◌, length, take, drop}
-use Rattle.std.proofs.Common.{map, get_or, set, replicate, Some, inl, inr, refl, sym, ap, subst, ◌∙◌, if◌then◌else◌, arith}
+use Rattle.std.proofs.Common.{◌≡◌, ◌≢◌, ℕ, zero, suc, ◌+◌, ◌-◌, ◌*◌, ◌%◌, ◌<◌, ◌≤◌, ◌==◌, Bool, List, [], ◌∷◌, ◌++◌, length, take, drop}
+use Rattle.std.proofs.Common.{map, get_or, set, Some, inl, inr, refl, sym, ap, subst, ◌∙◌, if◌then◌else◌, arith}
 use Rattle.std.proofs.lemmas.Bool.{cases_lt, cases_eq, eq-eqb, ne_eqb}
-use Rattle.std.proofs.lemmas.List.{append-nil, length-map, length-replicate, length-set, length-take-le, take_all, take-set-le, take_more, take_more_set}
-use Rattle.std.proofs.lemmas.List.{drop-append-le, drop-set-lt, get_or-replicate, get_or-set_same, get_or-set_other}
+use Rattle.std.proofs.lemmas.List.{append-nil, length-map, length-set, length-take-le, take_all, take-set-le, take_more, take_more_set}
+use Rattle.std.proofs.lemmas.List.{drop-append-le, drop-set-lt, get_or-set_same, get_or-set_other}
 use Rattle.std.proofs.Math.Seq.{take-set-lt}
 use Rattle.std.proofs.lemmas.Slice.{between_is}
-use Rattle.std.proofs.lemmas.Option.{none-some, same_Some}
+use Rattle.std.proofs.lemmas.Option.{none-some}
 use Rattle.std.specs.Prelude.{slice_get}
 use Rattle.std.specs.List.{between}
 use Rattle.successors.specs.declared.parcel.Successor.{Successor}
 use Rattle.successors.specs.declared.limits.TheConstants.{MAX_SHARES}
 use Rattle.successors.specs.declared.dealing.TheConstants.{MOST_DEALT}
 use Rattle.successors.specs.inside.Sums.{AreSums, scene_sum}
-use Rattle.successors.specs.inside.Dealt.{share_places, successor_places, IsDealtRow, IsDealt}
+use Rattle.successors.specs.inside.Dealt.{share_places, successor_places, IsDealt}
 
 -- ---- the places of one share
 
@@ -28,37 +28,20 @@ sums_of ss = map (λ s. scene_sum s.position) ss
 -- one more sum, if it is of the share, has the last place
 places_more : (shares share k p x : ℕ) (xs : List ℕ) → p ≡ k + length xs →
     share_places shares share k (xs ++ x ∷ []) ≡ share_places shares share k xs ++ put_if (x % shares == share) p []
-places_more shares share k p x [] e = ap (λ n. put_if (x % shares == share) n []) (sym here)
-  where
-    here : p ≡ k
-    here = omega (arith, e)
-places_more shares share k p x (y ∷ xs) e = go (places_more shares share (suc k) p x xs (omega (arith, e))) (y % shares == share)
-  where
-    go : share_places shares share (suc k) (xs ++ x ∷ []) ≡ share_places shares share (suc k) xs ++ put_if (x % shares == share) p [] → (b : Bool) →
-        put_if b k (share_places shares share (suc k) (xs ++ x ∷ [])) ≡ put_if b k (share_places shares share (suc k) xs) ++ put_if (x % shares == share) p []
-    go rest true = ap (λ ps. k ∷ ps) rest
-    go rest false = rest
+places_more shares share k p x [] e = grind arith
+places_more shares share k p x (y ∷ xs) e = grind (arith, places_more shares share (suc k) p x xs (omega (arith, e)))
 
 -- each is the place of a sum
 pub places_within : (shares share k n : ℕ) (xs : List ℕ) → k + length xs ≤ n →
     (i p : ℕ) → slice_get (share_places shares share k xs) i ≡ Some p → p < n
 places_within shares share k n [] le i p at = absurd (none-some p at)
 places_within shares share k n (x ∷ xs) le i p at =
-    go (x % shares == share) (share_places shares share (suc k) xs) (places_within shares share (suc k) n xs (omega (arith, le))) i at
-  where
-    go : (b : Bool) (rest : List ℕ) → ((i p : ℕ) → slice_get rest i ≡ Some p → p < n) → (i : ℕ) → slice_get (put_if b k rest) i ≡ Some p → p < n
-    go true rest all zero at = omega (arith, le, same_Some k p at)
-    go true rest all (suc i) at = all i p at
-    go false rest all i at = all i p at
+    grind (arith, places_within shares share (suc k) n xs (omega (arith, le)))
 
 -- there are no more of them than sums
 pub places_few : (shares share k : ℕ) (xs : List ℕ) → length (share_places shares share k xs) ≤ length xs
 places_few shares share k [] = omega arith
-places_few shares share k (x ∷ xs) = go (x % shares == share) (share_places shares share (suc k) xs) (places_few shares share (suc k) xs)
-  where
-    go : (b : Bool) (rest : List ℕ) → length rest ≤ length xs → length (put_if b k rest) ≤ suc (length xs)
-    go true rest le = omega (arith, le)
-    go false rest le = omega (arith, le)
+places_few shares share k (x ∷ xs) = grind (arith, places_few shares share (suc k) xs)
 
 -- ---- they are listed
 
@@ -70,36 +53,13 @@ pub record AreListed (shares place : ℕ) (rows lens sums : List ℕ) : Type 0 w
   pub listed : (share : ℕ) → share < shares → drop (share * MOST_DEALT) (take (share * MOST_DEALT + get_or lens share 0) rows) ≡
       share_places shares share 0 (take place sums)
 
-none_from : (n m : ℕ) (xs : List ℕ) → m ≡ n → drop n (take m xs) ≡ []
-none_from zero zero xs e = refl
-none_from zero (suc m) xs e = absurd (omega (arith, e))
-none_from (suc n) zero xs e = absurd (omega (arith, e))
-none_from (suc n) (suc m) [] e = refl
-none_from (suc n) (suc m) (x ∷ xs) e = none_from n m xs (omega (arith, e))
-
--- at first there are none
-pub none_listed : (shares : ℕ) (rows lens sums : List ℕ) → length rows ≡ MAX_SHARES * MOST_DEALT → lens ≡ replicate MAX_SHARES 0 → shares ≤ MAX_SHARES →
-    AreListed shares 0 rows lens sums
-none_listed shares rows lens sums size e most = record {
-  size = size;
-  long = ap length e ∙ length-replicate {A = ℕ} MAX_SHARES 0;
-  few = λ share lt. omega (arith, zeros share lt);
-  listed = λ share lt. none_from (share * MOST_DEALT) (share * MOST_DEALT + get_or lens share 0) rows (omega (arith, zeros share lt));
-}
-  where
-    zeros : (share : ℕ) → share < shares → get_or lens share 0 ≡ 0
-    zeros share lt = ap (λ (xs : List ℕ). get_or xs share 0) e ∙ get_or-replicate MAX_SHARES share 0 0 (omega (arith, lt, most))
-
 module _ (shares place share : ℕ) (rows lens sums : List ℕ) (held : AreListed shares place rows lens sums) (most : shares ≤ MAX_SHARES)
     (lt : place < length sums)
     (few : length sums ≤ MOST_DEALT) (is : share ≡ get_or sums place 0 % shares) (own : share < shares) where
   -- the places of a share with one more sum
   more : (other : ℕ) → share_places shares other 0 (take (place + 1) sums)
       ≡ share_places shares other 0 (take place sums) ++ put_if (share == other) place []
-  more other =
-      ap (share_places shares other 0) (take_more sums place 0 lt)
-      ∙ places_more shares other 0 place (get_or sums place 0) (take place sums) (omega (arith, length-take-le place sums (omega (arith, lt))))
-      ∙ ap (λ (n : ℕ). share_places shares other 0 (take place sums) ++ put_if (n == other) place []) (sym is)
+  more other = grind (arith, take_more, places_more, length-take-le)
 
   abbrev len : ℕ
   len = get_or lens share 0
@@ -136,24 +96,11 @@ module _ (shares place share : ℕ) (rows lens sums : List ℕ) (held : AreListe
   -- and that of another one stays
   row_kept : (other : ℕ) → other < shares → other ≢ share → drop (other * MOST_DEALT) (take (other * MOST_DEALT + get_or lens other 0) rows_after) ≡
       drop (other * MOST_DEALT) (take (other * MOST_DEALT + get_or lens other 0) rows)
-  row_kept other less ne =
-      let n = other * MOST_DEALT + get_or lens other 0 in
-      let small = held.few other less in
-      elim (cases_lt other share) [
-        | inl below ↦ ap (drop (other * MOST_DEALT)) (take-set-le n rows (share * MOST_DEALT + len) place (omega (arith, below, small, lt, few)))
-        | inr above ↦ (let apart : share < other = omega (arith, above, ne) in
-            ap (drop (other * MOST_DEALT)) (take-set-lt n rows (share * MOST_DEALT + len) place (omega (arith, apart, len_small, lt, few)))
-            ∙ drop-set-lt (other * MOST_DEALT) (take n rows) (share * MOST_DEALT + len) place (omega (arith, apart, len_small, lt, few)))
-      ]
+  row_kept other less ne = grind (arith, cases_lt, take-set-le, take-set-lt, len_small, drop-set-lt)
 
   row_other : (other : ℕ) → other < shares → other ≢ share → drop (other * MOST_DEALT) (take (other * MOST_DEALT + get_or lens_after other 0) rows_after) ≡
       share_places shares other 0 (take (place + 1) sums)
-  row_other other less ne =
-      ap (λ (n : ℕ). drop (other * MOST_DEALT) (take (other * MOST_DEALT + n) rows_after)) (len_other other ne)
-      ∙ row_kept other less ne
-      ∙ held.listed other less
-      ∙ sym (append-nil (share_places shares other 0 (take place sums)))
-      ∙ sym (more other ∙ ap (λ (b : Bool). share_places shares other 0 (take place sums) ++ put_if b place []) (ne_eqb share other (λ e. ne (sym e))))
+  row_other other less ne = grind (arith, len_other, row_kept, append-nil, more, ne_eqb)
 
   pub one_listed : AreListed shares (place + 1) rows_after lens_after sums
   one_listed = record {
@@ -190,13 +137,7 @@ both_listed place (suc (suc share)) len evens odds rows sums rest held lt few is
 -- once all sums are looked at, they are dealt
 pub all_listed : (shares place : ℕ) (rows lens sums : List ℕ) → AreListed shares place rows lens sums → shares ≤ MAX_SHARES → length sums ≡ place →
     length sums ≤ MOST_DEALT → IsDealt shares rows lens sums
-all_listed shares place rows lens sums held most all few = (
-  most,
-  λ share lt. record {
-    within = omega (arith, held.few share lt, all, few);
-    places = held.listed share lt ∙ ap (share_places shares share 0) (take_all place sums (omega (arith, all)));
-  },
-)
+all_listed shares place rows lens sums held most all few = grind (arith, take_all)
 
 -- what stands in the row of a share
 pub places_there : (dealt shares share from end : ℕ) (rows lens sums : List ℕ) (before ss : List Successor) →
@@ -204,9 +145,7 @@ pub places_there : (dealt shares share from end : ℕ) (rows lens sums : List �
     end ≡ from + get_or lens share 0 →
     between from end rows ≡ successor_places shares share ss
 places_there dealt shares share from end rows lens sums before ss lt all held are same from_is end_is =
-    let here : IsDealtRow shares share rows lens sums = (subst (λ n. IsDealt n rows lens sums) all held).1 share lt in
-    between_is rows from end ∙ (λ i. drop (from_is i) (take ((end_is ∙ ap (λ (n : ℕ). n + get_or lens share 0) from_is) i) rows)) ∙ here.places
-    ∙ ap (share_places shares share 0) (are ∙ ap sums_of same)
+    grind (arith, between_is)
 
 length-sums : (ss : List Successor) → length (sums_of ss) ≡ length ss
 length-sums ss = length-map ss (λ (s : Successor). scene_sum s.position)

@@ -71,16 +71,7 @@ abbrev pub Distinct : {A : Type 0} → List A → Type 0
 Distinct {A} xs = (i j : ℕ) (a : A) → slice_get xs i ≡ Some a → slice_get xs j ≡ Some a → i ≡ j
 
 pub distinct_push : {A : Type 0} (xs : List A) (y : A) → Distinct xs → ¬ (IsIn xs y) → Distinct (xs ++ y ∷ [])
-distinct_push xs y distinct new i j a at_i at_j = elim (at-push xs y i a at_i) [
-  | inl old ↦ elim (at-push xs y j a at_j) [
-    | inl old' ↦ distinct i j a old old'
-    | inr last ↦ absurd (new (i, subst (λ z. slice_get xs i ≡ Some z) last.1 old))
-  ]
-  | inr last ↦ elim (at-push xs y j a at_j) [
-    | inl old' ↦ absurd (new (j, subst (λ z. slice_get xs j ≡ Some z) last.1 old'))
-    | inr last' ↦ last.0 ∙ sym last'.0
-  ]
-]
+distinct_push xs y distinct new i j a at_i at_j = grind (arith, at-push)
 
 -- ---- sums and counts after one write
 
@@ -164,12 +155,7 @@ get_none xs i h = slice_get_past xs i h.3
 pub resized : {A U E : Type 0} (r : Result U E) (n m : ℕ) (a : A) (old new : List A) → old ≡ [] → m ≡ length old
     → false ≡ is_err r
     → new ≡ (if is_ok r then take n old ++ replicate (n - m) a else old) → new ≡ replicate n a
-resized {A} (Ok u) n m a old new none long ok e = e ∙ (λ i. take n (none i) ++ replicate (n - m) a)
-    ∙ ap (λ xs. xs ++ replicate (n - m) a) (take-nil n) ∙
-    ap (λ k. replicate k a) minus
-  where
-    minus : n - m ≡ n
-    minus = omega (arith, ap length none)
+resized {A} (Ok u) n m a old new none long ok e = grind (arith, take-nil)
 resized (Err x) n m a old new none long ok e = cc
 
 -- ---- parts of lists, and lists of values
@@ -234,10 +220,7 @@ set_at [] s t y z at = absurd (none-some z at)
 set_at (x ∷ xs) zero zero y z at = inl (refl, sym (same_Some y z at))
 set_at (x ∷ xs) zero (suc t) y z at = inr ((λ e. omega (arith, e)), at)
 set_at (x ∷ xs) (suc s) zero y z at = inr ((λ e. omega (arith, e)), at)
-set_at (x ∷ xs) (suc s) (suc t) y z at = elim (set_at xs s t y z at) [
-  | inl same ↦ inl (ap suc same.0, same.1)
-  | inr other ↦ inr ((λ e. other.0 (omega (arith, e))), other.1)
-]
+set_at (x ∷ xs) (suc s) (suc t) y z at = grind (arith, set_at xs s t y z at)
 
 -- ---- what holds of each element
 

@@ -6,7 +6,7 @@ use Rattle.successors.specs.declared.limits.TheConstants.{MAX_SHARES}
 use Rattle.successors.specs.declared.dealing.TheConstants.{MOST_DEALT}
 use Rattle.successors.specs.inside.Sums.{scene_sum}
 
--- the places of those of these sums that are of the share, where the first one stands at k
+-- the places of the sums of this share, counted from k
 abbrev pub share_places : ℕ → ℕ → ℕ → List ℕ → List ℕ
 share_places shares share k [] = []
 share_places shares share k (x ∷ xs) =
@@ -22,7 +22,7 @@ pub record IsDealtRow (shares share : ℕ) (rows lens sums : List ℕ) : Type 0 
   pub places : drop (share * MOST_DEALT) (take (share * MOST_DEALT + get_or lens share 0) rows) ≡
       share_places shares share 0 sums
 
--- so do those of each share
+-- the row of each share begins with the places of its successors
 abbrev pub AllListed : ℕ → List ℕ → List ℕ → List ℕ → Type 0
 AllListed shares rows lens sums = (share : ℕ) → share < shares → IsDealtRow shares share rows lens sums
 

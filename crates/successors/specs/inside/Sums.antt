@@ -1,4 +1,4 @@
--- The sum that a position's share is told by, and the sums that lie beside successors.
+-- The sum that decides a position's share, and the sums of successors.
 use Rattle.std.specs.Prelude.{◌≡◌, ℕ, ◌+◌, List, map, sum}
 use Rattle.grid.specs.Board.{Scene}
 use Rattle.successors.specs.declared.parcel.Successor.{Successor}
@@ -7,6 +7,6 @@ use Rattle.successors.specs.declared.parcel.Successor.{Successor}
 abbrev pub scene_sum : Scene → ℕ
 scene_sum m = sum m.boxes + m.player
 
--- each of these is the sum of the successor that it lies beside
+-- the sums are those of the successors, in order
 abbrev pub AreSums : List Successor → List ℕ → Type 0
 AreSums ss sums = sums ≡ map (λ s. scene_sum s.position) ss

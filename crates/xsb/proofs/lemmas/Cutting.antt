@@ -1,6 +1,5 @@
 -- Lines are cut into boards and gaps, also those that are left of a collection that was read in part.
-use Rattle.std.proofs.Common.{◌≡◌, ℕ, suc, ◌+◌, ◌<◌, List, [], ◌∷◌, ◌++◌, length, flat_map, refl, ap, ◌∙◌, arith, subst, ⊎_elim}
-use Rattle.std.specs.Bool.{⊤}
+use Rattle.std.proofs.Common.{◌≡◌, ℕ, ◌+◌, List, [], ◌∷◌, ◌++◌, length, flat_map, refl, ap, ◌∙◌, arith, subst, ⊎_elim}
 use Rattle.std.specs.List.{AllZip, AllByRecursion}
 use Rattle.grid.specs.declared.cell.Cell.{Cell}
 use Rattle.xsb.specs.Boards.{board_of}

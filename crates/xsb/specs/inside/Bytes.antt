@@ -9,7 +9,7 @@ use Rattle.xsb.specs.Rows.{cell_byte}
 abbrev pub line_feed : ℕ
 line_feed = 10
 
--- CR may stand before it
+-- CR may come before it
 abbrev pub carriage_return : ℕ
 carriage_return = 13
 

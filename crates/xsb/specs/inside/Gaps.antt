@@ -37,7 +37,7 @@ abbrev pub BeginsGap : List (List ℕ) → Type 0
 BeginsGap [] = ⊤
 BeginsGap (line ∷ lines) = IsTextLine line
 
--- some text lines are read, which a gap tells of
+-- some text lines are read, and the gap keeps their last comment and first title
 pub record ReadsTexts (old new : Lines) (gap : Gap) (texts : List (List ℕ)) : Type 0 where
   pub all : AllByRecursion IsTextLine texts
   pub whole : cut_lines old.rest ≡ texts ++ cut_lines new.rest

@@ -8,15 +8,15 @@ use Rattle.xsb.specs.Entries.{IsBoardEntry}
 use Rattle.xsb.specs.inside.Gaps.{IsGap, BeginsBoard}
 use Rattle.xsb.specs.inside.Reading.{cut_lines}
 
--- what stands in the lines from a board on, after a gap
+-- the lines from a board on, after a gap, have these boards
 pub record Continues (line : ℕ) (before lines : List (List ℕ)) (parts : List Part) (founds : List Found) : Type 0 where
   pub whole : lines ≡ flat_map (λ part. part.board ++ part.gap) parts
   pub boards : AllByRecursion IsPart parts
   pub apart : AreSeparated parts
   pub found : AreFound line before parts founds
 
--- the bytes were read as far as these boards, which are the first of their collection: whatever stands in the lines
--- that are left follows them in it
+-- the bytes were read as far as these boards, the first of their collection: the boards of the lines that are left are
+-- the others
 pub record HasRead (bytes : List ℕ) (left : Collection) (founds : List Found) : Type 0 where
   pub texts : List (List ℕ)
   pub gap : IsGap left.before texts

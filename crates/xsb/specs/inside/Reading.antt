@@ -34,7 +34,7 @@ AppendsRows line cols cells more =
 abbrev pub IsNoRow : List ℕ → Type 0
 IsNoRow piece = (row : List Cell) → ¬ (IsRow piece row)
 
--- the bytes are a row, of so many cells without the floor at its end
+-- the bytes are a row of n cells, without the floor at its end
 abbrev pub IsRowOfLength : List ℕ → ℕ → Type 0
 IsRowOfLength piece n = (row : List Cell) × IsRow piece row × (n ≡ saturated (length (cut_row row)))
 
@@ -45,6 +45,6 @@ cut_line raw = without_last carriage_return (without_last line_feed raw)
 abbrev pub cut_lines : List (List ℕ) → List (List ℕ)
 cut_lines raw = map cut_line raw
 
--- a line comes next, as it stands without what ends it
+-- the next line, without its end
 abbrev pub IsNextLine : List (List ℕ) → List ℕ → Type 0
 IsNextLine rest line = (raw : List ℕ) × (more : List (List ℕ)) × (rest ≡ raw ∷ more) × (line ≡ cut_line raw)

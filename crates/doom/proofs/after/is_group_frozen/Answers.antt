@@ -1,10 +1,9 @@
-use Rattle.std.proofs.Common.{◌≡◌, ◌↔◌, ◌<◌, ℕ, Bool, List, true, false, not, IsTrue, length, inl, refl, sym, ap, subst, ◌∙◌}
+use Rattle.std.proofs.Common.{rules, ◌≡◌, ◌<◌, ℕ, Bool, List, true, false, not, length, inl, refl, sym, ap, subst, ◌∙◌}
 use Rattle.std.proofs.lemmas.Bool.{and_parts, false≢true, not-true}
 use Rattle.grid.specs.Board.{Board, is_goal, is_wall}
 use Rattle.grid.specs.Masks.{has_bit, word_count}
 use Rattle.grid.specs.Squares.{Squares, contains}
 use Rattle.grid.proofs.lemmas.Steps.{inside_grid}
-use Rattle.area.specs.Groups.{HangsWith}
 use Rattle.area.specs.Words.{squares_of}
 use Rattle.area.proofs.lemmas.Flooding.{words_enough}
 use Rattle.area.proofs.lemmas.Hanging.{hanging_box}
@@ -67,52 +66,39 @@ module _ (board : Board) (holds : Holds) (are : AreHolds board holds) (boxes : S
         held = subst (λ (n : ℕ). AreHeld holds n (squares_of left)) same largest.held;
       }
 
-pub returns-then-not-has_locked-clause-group : goal.returns-then-not-has_locked-clause-group
-returns-then-not-has_locked-clause-group c = (
-  λ h. absurd (false≢true h),
-  λ (members, frozen, _). absurd (none_frozen c.args.level.now c.holds-holds.result.now
-      (subst (λ (b : Board). AreHolds b c.holds-holds.result.now) c.requires.dead_of_level c.holds-holds.ensures) c.args.boxes.now c.requires.clear
-      c.cols.result c.cols.ensures c.boxes_aside-left.result.now c.boxes_aside-left.ensures.boxes c.has_locked.result c.has_locked.ensures.locked
-      c.if-not-has_locked.true members frozen),
-)
+pub returns-then-not-has_locked : goal.returns-then-not-has_locked
+returns-then-not-has_locked c =
+    let none = none_frozen c.args.level.now c.holds-holds.result.now
+    (subst (λ (b : Board). AreHolds b c.holds-holds.result.now) c.requires.dead_of_level c.holds-holds.ensures)
+    c.args.boxes.now c.requires.clear c.cols.result c.cols.ensures c.boxes_aside-left.result.now
+    c.boxes_aside-left.ensures.boxes c.has_locked.result c.has_locked.ensures.locked c.if-not-has_locked.true in
+    record {
+      group = (λ h. absurd (false≢true h), λ (members, frozen, _). absurd (none members frozen));
+      others = λ members frozen. absurd (none members frozen);
+      kept = search rules;
+    }
 
-pub returns-then-not-has_locked-clause-others : goal.returns-then-not-has_locked-clause-others
-returns-then-not-has_locked-clause-others c = λ members frozen. absurd (none_frozen c.args.level.now c.holds-holds.result.now
-    (subst (λ (b : Board). AreHolds b c.holds-holds.result.now) c.requires.dead_of_level c.holds-holds.ensures) c.args.boxes.now c.requires.clear
-    c.cols.result c.cols.ensures c.boxes_aside-left.result.now c.boxes_aside-left.ensures.boxes c.has_locked.result c.has_locked.ensures.locked
-    c.if-not-has_locked.true members frozen)
+pub returns-then-frozen-off : goal.returns-then-frozen-off
+returns-then-frozen-off c =
+    let both = and_parts c.has-frozen.result (not c.is_goal-off.result) c.if-frozen-off.true in
+    let frozen = group_frozen c.args.level.now c.holds-holds.result.now
+    (subst (λ (b : Board). AreHolds b c.holds-holds.result.now) c.requires.dead_of_level c.holds-holds.ensures)
+    c.args.boxes.now c.requires.clear c.cols.result c.cols.ensures c.boxes_aside-left.result.now
+    c.boxes_aside-left.ensures.boxes c.has_locked.new.members c.args.square c.has_locked.ensures.left c.requires.there
+    (sym c.has-frozen.ensures ∙ both.0) (sym c.is_goal-off.ensures ∙ not-true c.is_goal-off.result both.1) in
+    record { group = (λ _. frozen, λ _. refl); others = λ _ _. inl refl; kept = search rules }
 
-pub returns-then-frozen-off-clause-group : goal.returns-then-frozen-off-clause-group
-returns-then-frozen-off-clause-group c =
-    let both = and_parts c.has-frozen.result (not c.is_goal-off.result) c.if-frozen-off.true in (
-      λ _. group_frozen c.args.level.now c.holds-holds.result.now
-          (subst (λ (b : Board). AreHolds b c.holds-holds.result.now) c.requires.dead_of_level c.holds-holds.ensures) c.args.boxes.now c.requires.clear
-          c.cols.result c.cols.ensures c.boxes_aside-left.result.now c.boxes_aside-left.ensures.boxes c.has_locked.new.members c.args.square
-          c.has_locked.ensures.left c.requires.there (sym c.has-frozen.ensures ∙ both.0) (sym c.is_goal-off.ensures ∙ not-true c.is_goal-off.result both.1),
-      λ _. refl,
-    )
-
-pub returns-then-frozen-off-clause-others : goal.returns-then-frozen-off-clause-others
-returns-then-frozen-off-clause-others c = λ members frozen. inl refl
-
--- the boxes that hang together with the one on the square, and whether some of them are frozen
-told : (c : goal.After-any_locked_with) → (group : Squares) ×
-    ((q : ℕ) → (contains group q ≡ true) ↔ HangsWith c.args.level.now c.args.boxes.now c.args.square q) ×
-    (IsTrue c.any_locked_with.result ↔ ((part : Squares) × IsFrozen c.args.level.now group part))
-told c =
+pub returns : goal.returns
+returns c =
     let (group, hang, tells) = c.any_locked_with.ensures.locked in
-    let inside : StandInside c.args.level.now group = λ q h. inside_grid c.args.level.now q (c.requires.clear q (hanging_box ((hang q).0 h))) in (
-      group,
-      hang,
-      frozen_told c.args.level.now c.holds-holds.result.now
-          (subst (λ (b : Board). AreHolds b c.holds-holds.result.now) c.requires.dead_of_level c.holds-holds.ensures) group inside
-          c.any_locked_with.result tells,
-    )
-
-pub returns-clause-group : goal.returns-clause-group
-returns-clause-group c = (let (group, hang, tells) = told c in
-    group_told c.args.level.now c.args.boxes.now c.args.square group c.any_locked_with.result hang tells)
-
-pub returns-clause-others : goal.returns-clause-others
-returns-clause-others c = (let (group, hang, tells) = told c in
-    others_told c.args.level.now c.args.boxes.now c.args.square group c.any_locked_with.result hang tells c.requires.clear)
+    let inside : StandInside c.args.level.now group =
+    λ q h. inside_grid c.args.level.now q (c.requires.clear q (hanging_box ((hang q).0 h))) in
+    let told = frozen_told c.args.level.now c.holds-holds.result.now
+    (subst (λ (b : Board). AreHolds b c.holds-holds.result.now) c.requires.dead_of_level c.holds-holds.ensures) group
+    inside c.any_locked_with.result tells in
+    record {
+      group = group_told c.args.level.now c.args.boxes.now c.args.square group c.any_locked_with.result hang told;
+      others = others_told c.args.level.now c.args.boxes.now c.args.square group c.any_locked_with.result hang told
+          c.requires.clear;
+      kept = search rules;
+    }

@@ -1,4 +1,4 @@
-use Rattle.std.proofs.Common.{◌↔◌, IsTrue, inl, inr, sym, ap, subst, ◌∙◌}
+use Rattle.std.proofs.Common.{rules, ◌↔◌, IsTrue, inl, inr, sym, ap, subst, ◌∙◌}
 use Rattle.std.proofs.lemmas.Bool.{false≢true}
 use Rattle.grid.specs.Squares.{Squares, contains}
 use Rattle.grid.proofs.lemmas.Steps.{inside_grid}
@@ -21,27 +21,24 @@ returns-then-any_dead-clause-lost c found =
       subst (λ board. IsDead board q) c.requires.dead_of_level dead,
     ))
 
--- the boxes are doomed exactly where the answer is yes
-decided : (c : goal.After-any_frozen) → IsTrue c.any_frozen.result ↔ Doomed c.args.level.now c.args.position.now.boxes
-decided c =
+pub returns-else-any_dead : goal.returns-else-any_dead
+returns-else-any_dead c =
     let tells = subst (λ (given : Squares). IsTrue c.any_frozen.result ↔
     ((members : Squares) × IsFrozen c.args.level.now given members)) c.boxes-boxes.ensures.squares
-    c.any_frozen.ensures.frozen in (
+    c.any_frozen.ensures.frozen in
+    let decided : IsTrue c.any_frozen.result ↔ Doomed c.args.level.now c.args.position.now.boxes = (
       λ found. inr (tells.0 found),
       λ lost. elim lost [
-        | inl (q, there, dead) ↦ absurd
-            (false≢true (c.if-any_dead.ensures.1 (
-              q,
-              ap (λ given. contains given q) c.boxes-boxes.ensures.squares ∙
-                  there,
-              subst (λ given. IsDead given q) (sym c.requires.dead_of_level) dead,
-            )))
+        | inl (q, there, dead) ↦ absurd (false≢true (c.if-any_dead.ensures.1 (
+          q,
+          ap (λ given. contains given q) c.boxes-boxes.ensures.squares ∙ there,
+          subst (λ given. IsDead given q) (sym c.requires.dead_of_level) dead,
+        )))
         | inr frozen ↦ tells.1 frozen
       ],
-    )
-
-pub returns-else-any_dead-clause-doomed : goal.returns-else-any_dead-clause-doomed
-returns-else-any_dead-clause-doomed c = decided c
-
-pub returns-else-any_dead-clause-lost : goal.returns-else-any_dead-clause-lost
-returns-else-any_dead-clause-lost c found = doomed_are_lost c.args.level.now c.args.position.now.boxes ((decided c).0 found)
+    ) in
+    record {
+      doomed = decided;
+      lost = λ found. doomed_are_lost c.args.level.now c.args.position.now.boxes (decided.0 found);
+      kept = search rules;
+    }

@@ -1,4 +1,4 @@
-use Rattle.std.proofs.Common.{refl, sym, ◌∙◌, arith}
+use Rattle.std.proofs.Common.{refl, arith}
 use Rattle.xsb.proofs.Breaking.{zero-count}
 use Rattle.xsb.proofs.FirstItem.{cut-at_digits}
 use Rattle.xsb.proofs.breaks.cause_of.Goals as goal

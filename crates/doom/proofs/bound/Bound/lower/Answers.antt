@@ -7,31 +7,25 @@ use Rattle.doom.specs.Lost.{AreLost}
 use Rattle.doom.proofs.lemmas.Bounds.{lower_needed, lower_lessened, dead_are_lost}
 use Rattle.doom.proofs.bound.Bound.lower.Goals as goal
 
-needed : (board : Board) (boxes : Squares) (o : Option ℕ) → MatchOption o (HaveDead board boxes) (λ low. IsLower board boxes low) →
-    IfSome o (λ low. NeedAtLeast board boxes low)
-needed board boxes None dead = tt
-needed board boxes (Some n) lower = lower_needed board boxes n lower
+abbrev Told : Board → Squares → Option ℕ → Type 0
+Told board boxes o =
+    IfSome o (λ low. NeedAtLeast board boxes low) × IfSome o (λ low. LessenByOne board boxes low) ×
+    IfNone o (AreLost board boxes)
 
-pushed : (board : Board) (boxes : Squares) (o : Option ℕ) → MatchOption o (HaveDead board boxes) (λ low. IsLower board boxes low) →
-    IfSome o (λ low. LessenByOne board boxes low)
-pushed board boxes None dead = tt
-pushed board boxes (Some n) lower = lower_lessened board boxes n lower
+told : (board : Board) (boxes : Squares) (o : Option ℕ)
+    → MatchOption o (HaveDead board boxes) (λ low. IsLower board boxes low) → Told board boxes o
+told board boxes None dead = (tt, tt, dead_are_lost board boxes dead)
+told board boxes (Some n) lower = (lower_needed board boxes n lower, lower_lessened board boxes n lower, tt)
 
-lost : (board : Board) (boxes : Squares) (o : Option ℕ) → MatchOption o (HaveDead board boxes) (λ low. IsLower board boxes low) → IfNone o (AreLost board boxes)
-lost board boxes None dead = dead_are_lost board boxes dead
-lost board boxes (Some n) lower = tt
-
-pub returns-clause-needed : goal.returns-clause-needed
-returns-clause-needed c =
-    subst (λ boxes. IfSome c.sum.result (λ low. NeedAtLeast c.args.self.now boxes low)) c.boxes.ensures.squares
-    (needed c.args.self.now c.boxes.result.now c.sum.result c.sum.ensures)
-
-pub returns-clause-pushed : goal.returns-clause-pushed
-returns-clause-pushed c =
-    subst (λ boxes. IfSome c.sum.result (λ low. LessenByOne c.args.self.now boxes low)) c.boxes.ensures.squares
-    (pushed c.args.self.now c.boxes.result.now c.sum.result c.sum.ensures)
-
-pub returns-clause-lost : goal.returns-clause-lost
-returns-clause-lost c =
-    subst (λ boxes. IfNone c.sum.result (AreLost c.args.self.now boxes)) c.boxes.ensures.squares
-    (lost c.args.self.now c.boxes.result.now c.sum.result c.sum.ensures)
+pub returns : goal.returns
+returns c =
+    let all : Told c.args.self.now c.args.position.now.boxes c.sum.result =
+    subst (λ boxes. Told c.args.self.now boxes c.sum.result) c.boxes.ensures.squares
+    (told c.args.self.now c.boxes.result.now c.sum.result c.sum.ensures) in
+    record {
+      lower = subst (λ boxes. MatchOption c.sum.result (HaveDead c.args.self.now boxes) (λ low.
+          IsLower c.args.self.now boxes low)) c.boxes.ensures.squares c.sum.ensures;
+      needed = all.0;
+      pushed = all.1;
+      lost = all.2;
+    }

@@ -2,18 +2,18 @@ use Rattle.std.proofs.Common.{◌≡◌, ◌<◌, None, [], length, replicate, r
 use Rattle.std.proofs.lemmas.Bool.{false≢true}
 use Rattle.doom.specs.inside.Pulling.{Marks}
 use Rattle.doom.specs.Deadlocks.{home}
-use Rattle.doom.proofs.Pulling.{spread_none, spread_along, spread_more, spread_mark, spread_goals, marks_here, only_none}
+use Rattle.doom.proofs.Pulling.{spread_none, spread_more, spread_mark, spread_goals, marks_here, only_none}
 use Rattle.doom.proofs.pulls.PullSearch.goals.Goals as goal
 use Rattle.doom.proofs.pulls.PullSearch.goals.Goals.{then-is_goal+in_ok-mark, else-is_goal}
 
 pub loop-index-init : goal.loop-index-init
 loop-index-init c =
     let board = c.args.level.now in (
-      spread_along board (λ q. q < 0) (λ _ _. Unit {0}) 0
-          (replicate (length board.cells) None) c.in_ok-vec.field-0.items [] [] c.in_ok-with_capacity-2.field-0.items
-          (c.in_ok-vec.ensures.items_if_clones_equal (only_none _ (λ n no. no)) ∙ ap (λ n. replicate n None) c.squares-squares.ensures)
-          c.in_ok-with_capacity-2.ensures.items
-          (spread_none board),
+      rw (
+        c.in_ok-vec.ensures.items_if_clones_equal (only_none _ (λ n no. no))
+            ∙ ap (λ n. replicate n None) c.squares-squares.ensures,
+        c.in_ok-with_capacity-2.ensures.items,
+      ) (spread_none board),
       c.in_ok-with_capacity.ensures.items,
     )
 
@@ -32,18 +32,19 @@ loop-index-preserved c =
           let marks : Marks 0 i far marked far' marked' = (same ∙ w.in_ok-mark.ensures.marks.0, still ∙ w.in_ok-mark.ensures.marks.1) in
           let lt : i < length far = omega (arith, c.loop-index.invariant.0.size, c.loop-index-test.true) in (
             spread_more board i far' marked'
-                (λ _. marks_here board (λ q. q < i) (λ _ _. Unit {0}) 0 i far far' [] marked marked' lt marks c.loop-index.invariant.0)
-                (spread_mark board (λ q. q < i) (λ _ _. Unit {0}) 0 i far far' [] marked marked' lt (
-                  home (sym w.if-is_goal.ensures),
-                  refl,
-                ) marks c.loop-index.invariant.0),
+                (λ _. marks_here board (λ q. q < i) (λ _ _. Unit {0}) 0 i far [] marked lt c.loop-index.invariant.0
+                far' marked' marks)
+                (spread_mark board (λ q. q < i) (λ _ _. Unit {0}) 0 i far [] marked lt c.loop-index.invariant.0
+                far' marked' marks (home (sym w.if-is_goal.ensures), refl)),
             cc,
           )
-      | else-is_goal w ↦ (
-        spread_more board i far' marked' (λ goal. absurd (false≢true (w.if-is_goal.ensures ∙ goal)))
-            (spread_along board (λ q. q < i) (λ _ _. Unit {0}) 0 far far' [] marked marked' (cc) (cc) c.loop-index.invariant.0),
-        cc,
-      )
+      | else-is_goal w ↦
+          let same : far' ≡ far = cc in
+          let still : marked' ≡ marked = cc in (
+            spread_more board i far' marked' (λ goal. absurd (false≢true (w.if-is_goal.ensures ∙ goal)))
+                (rw (same, still) c.loop-index.invariant.0),
+            cc,
+          )
     ]
 
 pub returns-clause-filling : goal.returns-clause-filling

@@ -1,10 +1,11 @@
 use Rattle.std.proofs.Common.{◌≡◌, ℕ, ◌+◌, ◌<◌, Bool, List, false, true, length, slice_get, set, None, Some, inr, ap, sym, refl, subst, ◌∙◌, arith}
+use Rattle.std.proofs.lemmas.List.{length-set}
 use Rattle.std.proofs.lemmas.Option.{slice_get-get_or}
 use Rattle.layers.specs.inside.BookInside.{book_view, IsSoundBook}
 use Rattle.layers.specs.BookView.{IsLawfulBook}
 use Rattle.layers.specs.Books.{ClaimAnswer, IsClaimedOrDone, IsFreeRank}
-use Rattle.layers.proofs.lemmas.BookEvents.{lawful_claim}
-use Rattle.layers.proofs.lemmas.BookFields.{claimed-taken, marks_long}
+use Rattle.layers.proofs.lemmas.BookEvents.{lawful_claimed, marks_long}
+use Rattle.layers.proofs.lemmas.BookFields.{claimed-taken}
 use Rattle.layers.proofs.book.Book.claim.Goals as goal
 
 pub returns-then-are_all_set : goal.returns-then-are_all_set
@@ -29,7 +30,8 @@ invariant_of-self-then-not-is_set-2 c =
     let same = ap (λ x. length (book_view x).done) c.loop-rank.invariant.0 in
     let lt : rank < length v.claimed = omega (arith, c.len-rank-end.ensures) in
     record {
-      lawful = subst (λ bs. IsLawfulBook (record v { claimed = bs })) (sym c.set.ensures) (lawful_claim v rank sound.lawful);
+      lawful = subst (λ bs. IsLawfulBook (record v { claimed = bs })) (sym c.set.ensures)
+          (lawful_claimed v (set v.claimed rank true) (length-set v.claimed rank true) sound.lawful);
       few = sound.few;
       boxes = sound.boxes;
       cuts = sound.cuts;
