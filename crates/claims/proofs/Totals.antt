@@ -10,9 +10,6 @@ use Rattle.claims.specs.declared.views.View.{View}
 use Rattle.claims.specs.Rule.{over_hands}
 
 module _ (f : Hand → ℕ) where
-  of_view : View → ℕ
-  of_view v = sum_by f v.hands
-
   pub over_cons : (v : View) (vs : List View) → over_hands f (v ∷ vs) ≡ sum_by f v.hands + over_hands f vs
   over_cons v vs = sum_by-cons (λ (u : View). sum_by f u.hands) v vs
 

@@ -39,7 +39,7 @@ with_taken p h = record { place = h.place; numbers = h.numbers; spent = h.spent;
 abbrev pub with_number : ℕ → Hand → Hand
 with_number x h = record { place = h.place; numbers = h.numbers ++ x ∷ []; spent = h.spent; taken = h.taken }
 
--- the hand was told that no number is left
+-- the hand has learned that no number is left
 abbrev pub spent_out : Hand → Hand
 spent_out h = record { place = h.place; numbers = h.numbers; spent = true; taken = h.taken }
 
@@ -90,7 +90,7 @@ Drew len before (Some x) after =
     MayDraw before × (x < len) × All (λ y. y < x) before.numbers × (after ≡ with_number x before)
 Drew len before None after = (MayNotDraw before × (after ≡ before)) ⊎ (MayDraw before × (after ≡ spent_out before))
 
--- two hands have no number and no place in common: each stands in the two together at most once
+-- two hands have no number and no place in common: each occurs at most once in both together
 abbrev pub AreApart : Hand → Hand → Type 0
 AreApart h k =
     ((x : ℕ) → times x h.numbers + times x k.numbers ≤ 1) × ((p : ℕ) → is_place p h.place + is_place p k.place ≤ 1)

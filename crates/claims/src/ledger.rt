@@ -140,6 +140,7 @@ impl Ledger {
     /// Takes drawers for good, at any moment, and returns the next number to draw. Their lists and those of the other
     /// drawers keep the rule of the ledger. If they have all places, each number below the next one and below the
     /// length is in exactly one of their lists.
+    #[tactic(auto, using(crate::proofs::Auditing::of_table, crate::proofs::Auditing::audited))]
     pub fn audit(&self, drawers: Vec<Drawer>) -> u64
         requires { All (λ (d : DrawerView). d.ledger ≡ self.now) drawers.items }
         ensures { AreAudited self.now.len result (hands_of drawers.items) }
@@ -168,6 +169,7 @@ fn draw_next(shared: &Shared<(), View, u32, Drawn>, seat: &mut Seat<(), View>) -
 }
 
 // One seat with the hands of all drawers, in order.
+#[tactic(auto, using(crate::proofs::Auditing::gathered_more))]
 fn gathered(shared: &Shared<(), View, u32, Drawn>, drawers: Vec<Drawer>) -> Seat<(), View>
     requires words { shared.now.table_id.words ≡ suc PLACES }
     requires drawers { All (λ (d : DrawerView). (d.ledger.table ≡ shared.now.table_id) ×

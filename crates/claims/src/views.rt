@@ -4,7 +4,7 @@ use std::collections::LinkedList;
 
 /// What a drawer knows of its ledger.
 pub(crate) struct Hand {
-    /// Its place.
+    /// The drawer's place.
     pub(crate) place: Option<u8>,
     /// The numbers that it drew, in the order in which it drew them.
     pub(crate) numbers: LinkedList<u32>,

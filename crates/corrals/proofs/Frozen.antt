@@ -18,26 +18,6 @@ ahead_alone board boxes b ahead n inside i lt =
     let same : get_or (replicate n ahead) i 0 ≡ ahead = get_or-replicate n i ahead 0 (omega (arith, lt, size)) in
     subst (IsMoved board boxes b ahead) (sym same) (inside, inl refl)
 
--- where a box of the list stands after the push is put at a place
-pub one_put : (board : Board) (boxes : Squares) (b ahead place other x : ℕ) (moved : List ℕ) → AreMoved board boxes b ahead moved
-    → contains boxes other ≡ true → x < length board.cells → (ahead ≡ x) ⊎ ((other ≡ x) × (b ≢ x)) → AreMoved board boxes b ahead (set moved place x)
-one_put board boxes b ahead place other x moved are there inside stands i lt =
-    let size = length-set moved place x in
-    let before : i < length moved = omega (arith, lt, size) in
-    elim (cases_eq i place) [
-      | inl e ↦
-          (let within : place < length moved = omega (arith, before, e) in
-          let same : get_or (set moved place x) i 0 ≡ x = ap (λ (k : ℕ). get_or (set moved place x) k 0) e ∙ get_or-set_same moved place x 0 within in
-          subst (IsMoved board boxes b ahead) (sym same) (
-            inside,
-            elim stands [
-              | inl here ↦ inl here
-              | inr (old, apart) ↦ inr (ap (λ (z : ℕ). contains boxes z) (sym old) ∙ there, apart)
-            ],
-          ))
-      | inr ne ↦ subst (IsMoved board boxes b ahead) (sym (get_or-set_other moved place i x 0 ne)) (are i before)
-    ]
-
 pub each_moved : (board : Board) (boxes : Squares) (b ahead q : ℕ) (moved : List ℕ) → AreMoved board boxes b ahead moved → contains moved q ≡ true
     → IsMoved board boxes b ahead q
 each_moved board boxes b ahead q moved are there =

@@ -1,17 +1,20 @@
 -- What the check of a corral tells.
 use Rattle.std.proofs.Common.{◌≡◌, ◌<◌, ◌≤◌, ◌+◌, ℕ, Some, arith, Bool, true, false, not, eqb, ◌&&◌, ◌||◌, [], ◌∷◌, ◌⊎◌}
 use Rattle.std.proofs.Common.{length, inl, inr, refl, sym, ap, subst, ◌∙◌}
-use Rattle.std.specs.Prelude.{slice_get}
+use Rattle.std.specs.Prelude.{◌*◌, nat_lt, slice_get}
 use Rattle.std.specs.List.{list_all, list_any}
 use Rattle.std.proofs.lemmas.Option.{same_Some, slice_get_read}
-use Rattle.std.proofs.lemmas.Bool.{false≢true, and_parts, or_cases, or_right, eqb-true, cases_lt, not-true}
+use Rattle.std.proofs.lemmas.Bool.{false≢true, and_parts, or_cases, or_right, eqb-true, cases_lt, ltb-true, not-true}
 use Rattle.grid.specs.declared.dir.Dir.{Dir}
 use Rattle.grid.specs.declared.dir.Dir.TheVariants.{D, L, R, U}
 use Rattle.grid.specs.Squares.{Squares, contains}
+use Rattle.grid.specs.declared.masks.TheConstants.{WORD_BITS}
+use Rattle.grid.specs.Masks.{word_count}
 use Rattle.grid.specs.Board.{Board, Scene, is_wall, is_goal, next}
 use Rattle.grid.proofs.lemmas.Squares.{contains_head, place_of_member}
+use Rattle.area.proofs.lemmas.Flooding.{words_enough}
 use Rattle.corrals.specs.Corrals.{HasToChange, IsClosure}
-use Rattle.corrals.specs.inside.Checking.{IsReadyBox, shut_beside, shut_round, has_to_change}
+use Rattle.corrals.specs.inside.Checking.{IsReadyBox, are_inside, shut_beside, shut_round, has_to_change}
 
 pub all_pass : (test : ℕ → Bool) (xs : Squares) (q : ℕ) → list_all test xs ≡ true → contains xs q ≡ true → test q ≡ true
 all_pass test [] q all here = absurd (false≢true here)
@@ -40,6 +43,12 @@ in_each P all R =
     (and_parts (P R) (P U) (and_parts (P L) (P R && P U) (and_parts (P D) (P L && (P R && P U)) all).1).1).0
 in_each P all U =
     (and_parts (P R) (P U) (and_parts (P L) (P R && P U) (and_parts (P D) (P L && (P R && P U)) all).1).1).1
+
+-- squares of the level are within sets with room for all of them
+pub inside_words : (board : Board) (xs : Squares) (words q : ℕ) → are_inside board xs ≡ true →
+    words ≡ word_count (length board.cells) → contains xs q ≡ true → q < WORD_BITS * words
+inside_words board xs words q all room there = let size = length board.cells in
+    words_enough size words q room (ltb-true q size (all_pass (λ x. nat_lt x size) xs q all there))
 
 module _ (board : Board) (s : Scene) (held room : ℕ → Bool) (boxes squares : Squares)
     (held_are : (q : ℕ) → held q ≡ contains boxes q) (room_is : (q : ℕ) →

@@ -10,8 +10,8 @@ use Rattle.doom.specs.Deadlocks.{Doomed}
 use Rattle.prices.specs.Helping.{NeverHelps}
 use Rattle.corrals.specs.Trying.{Suffice}
 
--- on each held square stands a box; in the room is neither a box nor the player; beside it are only walls, held boxes
--- and the room itself
+-- each held square has a box; the room has neither a box nor the player; beside it are only walls, held boxes and the
+-- room itself
 pub record IsCorral (board : Board) (held room : ℕ → Bool) (s : Scene) : Type 0 where
   pub stands : (q : ℕ) → held q ≡ true → contains s.boxes q ≡ true
   pub clear : (q : ℕ) → room q ≡ true → contains s.boxes q ≡ false
@@ -35,13 +35,13 @@ IsBarred board held room b d = let behind = next board b (opposite d) in let ahe
 abbrev pub LeadsIn : Board → (ℕ → Bool) → Scene → ℕ → Dir → Type 0
 LeadsIn board room s b d = (room (next board b d) ≡ true) × Area board s (next board b (opposite d))
 
--- with the box pushed on, and all other held boxes as they stand, some of them are doomed
+-- some held boxes are doomed once this one is pushed and the others stay
 abbrev pub FreezesHeld : Board → (ℕ → Bool) → ℕ → Dir → Type 0
 FreezesHeld board held b d = (boxes : Squares) ×
     ((q : ℕ) → contains boxes q ≡ true → (next board b d ≡ q) ⊎ ((held q ≡ true) × (b ≢ q))) × Doomed board boxes
 
--- what is asked of a held box and a direction: a push that could be the first of a held box, and could help, can be
--- made now
+-- the push of a held box is ready: it cannot be the first of a held box, never helps, freezes held boxes, or can be
+-- made now into the room
 abbrev pub IsReady : Board → ℕ → (ℕ → Bool) → (ℕ → Bool) → Scene → ℕ → Dir → Type 0
 IsReady board m held room s b d =
     IsBarred board held room b d ⊎ (NeverHelps board m s b d ⊎ (FreezesHeld board held b d ⊎ LeadsIn board room s b d))
@@ -52,7 +52,7 @@ pub record IsClosure (board : Board) (m : ℕ) (held room : ℕ → Bool) (s : S
   pub change : HasToChange board held room
   pub ready : (b : ℕ) (d : Dir) → held b ≡ true → IsReady board m held room s b d
 
--- then the pushes of held boxes suffice
+-- with such a corral the pushes of held boxes suffice
 abbrev pub CorralsSuffice : Board → Type 0
 CorralsSuffice board = IsLevel board → (left : ℕ) (held room : ℕ → Bool) (s : Scene) → FitsLevel board s
     → IsClosure board (suc left) held room s → Suffice board left (λ p. held p.square ≡ true) s

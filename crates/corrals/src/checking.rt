@@ -17,6 +17,7 @@ use grid::{Dir, Square};
 
 /// Whether these boxes and squares are a corral in which something has to change, and whose pushes are ready. It fills
 /// the sets with the boxes and the squares.
+#[tactic(auto, using(crate::proofs::Looks::inside_words))]
 pub(crate) fn is_closure(
     ground: &Ground<'_>,
     boxes: &[Square],
@@ -113,6 +114,7 @@ fn are_shut(ground: &Ground<'_>, squares: &[Square], sets: &Sets) -> bool
         .all(|square| is_shut_round(ground, *square, sets))
 }
 
+// Whether the square is one of the level, has no box, and is shut in each direction.
 fn is_shut_round(ground: &Ground<'_>, square: Square, sets: &Sets) -> bool
     ensures { result ≡ shut_round ground.now.board ground.now.scene.boxes (has_bit sets.now.held)
         (has_bit sets.now.room) square }
@@ -125,6 +127,7 @@ fn is_shut_round(ground: &Ground<'_>, square: Square, sets: &Sets) -> bool
                         && is_shut_beside(ground, square, Dir::U, sets)))))
 }
 
+// Whether a wall, a square of the room or a held box is beside the square.
 fn is_shut_beside(ground: &Ground<'_>, square: Square, dir: Dir, sets: &Sets) -> bool
     requires { square < length ground.now.board.cells }
     ensures { result ≡ shut_beside ground.now.board (has_bit sets.now.held) (has_bit sets.now.room) square dir }
@@ -174,6 +177,7 @@ fn is_ready_round(
 }
 
 // Whether the push of a held box in a direction is ready or cannot be the first.
+#[tactic(auto, using(crate::proofs::Frozen::held_freeze))]
 fn is_ready_along(
     ground: &Ground<'_>,
     boxes: &[Square],

@@ -47,7 +47,7 @@ impl Holders {
 }
 
 impl Sketch {
-    /// Whether a box, pushed in the direction, may freeze with others of these boxes where they are.
+    /// Whether a box pushed in the direction may freeze with some of these boxes.
     pub(crate) fn may_freeze(
         &self,
         ground: &Ground<'_>,
@@ -65,8 +65,8 @@ impl Sketch {
         pushed.hold(members) && (members & self.off_goal() != 0 || !ground.is_goal(ahead))
     }
 
-    // The boxes that are left when each is taken out that neither the others nor the pushed box hold. It ends early if
-    // these do not hold the pushed box.
+    // The boxes that are left after removing, again and again, one that neither the others nor the pushed box hold. It
+    // ends early if these do not hold the pushed box.
     fn peel(&self, boxes: u64, pushed: &Holders) -> u64 {
         let mut members = boxes;
         let mut rest = boxes;

@@ -2,7 +2,7 @@
 use Rattle.std.proofs.Common.{◌≡◌, ℕ, ◌+◌, ◌<◌, ◌≤◌, Bool, true, false, cond, List, [], ◌∷◌, ◌++◌, ◌⊎◌, length, take, drop, slice_index, refl, sym, ap}
 use Rattle.std.proofs.Common.{subst, length-append, ◌∙◌, arith, append_assoc}
 use Rattle.std.specs.Char.{is_ascii_digit}
-use Rattle.std.proofs.lemmas.List.{take-append-drop}
+use Rattle.std.proofs.lemmas.List.{take-append-drop, take_rest}
 use Rattle.std.proofs.lemmas.List.Folds.{length-prefix_len}
 use Rattle.grid.specs.declared.moves.Letter.{Letter}
 use Rattle.counts.specs.Counts.{AreDigits, IsCount, begins_with_digit, repeats}
@@ -74,3 +74,6 @@ takes_item bytes moves n times letter more count is lawful counted few = record 
       omega arith;
   few = few;
 }
+
+-- why the first byte begins no letter with its count
+pub ruleset fault_of_item = (bad_byte, bad_count, digits_in_front, take_rest)

@@ -7,6 +7,7 @@ use Rattle.std.proofs.lemmas.Bool.Decides.{nat_tests}
 use Rattle.grid.specs.declared.dir.Dir.{Dir}
 use Rattle.grid.specs.declared.dir.Dir.TheVariants.{D, L, R, U}
 use Rattle.grid.specs.declared.moves.Letter.{Letter}
+use Rattle.grid.proofs.lemmas.Directions.{each_way}
 use Rattle.lurd.specs.inside.Item.{IsLetterByte}
 use Rattle.lurd.specs.Text.{letter_byte, is_skipped}
 
@@ -14,33 +15,24 @@ use Rattle.lurd.specs.Text.{letter_byte, is_skipped}
 abbrev letter_by : Dir → Bool → Letter
 letter_by d b = record { dir = d; push = b }
 
-no_digit_by : (d : Dir) (b : Bool) → is_ascii_digit (letter_byte (letter_by d b)) ≡ false
-no_digit_by D true = refl
-no_digit_by L true = refl
-no_digit_by R true = refl
-no_digit_by U true = refl
-no_digit_by D false = refl
-no_digit_by L false = refl
-no_digit_by R false = refl
-no_digit_by U false = refl
+-- what holds of the letters of each direction in either case holds of each letter
+each_letter : (P : Letter → Type 0) → ((d : Dir) → P (letter_by d true)) → ((d : Dir) → P (letter_by d false)) →
+    (x : Letter) → P x
+each_letter P upper lower x = by x.dir x.push
+  where
+    by : (d : Dir) (b : Bool) → P (letter_by d b)
+    by d true = upper d
+    by d false = lower d
 
 -- a letter's byte is no digit
 pub letter_no_digit : (x : Letter) → is_ascii_digit (letter_byte x) ≡ false
-letter_no_digit x = no_digit_by x.dir x.push
-
-no_blank_by : (d : Dir) (b : Bool) → is_skipped (letter_byte (letter_by d b)) ≡ false
-no_blank_by D true = refl
-no_blank_by L true = refl
-no_blank_by R true = refl
-no_blank_by U true = refl
-no_blank_by D false = refl
-no_blank_by L false = refl
-no_blank_by R false = refl
-no_blank_by U false = refl
+letter_no_digit x = each_letter (λ y. is_ascii_digit (letter_byte y) ≡ false) (each_way _ refl refl refl refl)
+    (each_way _ refl refl refl refl) x
 
 -- and no blank
 pub letter_no_blank : (x : Letter) → is_skipped (letter_byte x) ≡ false
-letter_no_blank x = no_blank_by x.dir x.push
+letter_no_blank x = each_letter (λ y. is_skipped (letter_byte y) ≡ false) (each_way _ refl refl refl refl)
+    (each_way _ refl refl refl refl) x
 
 -- a blank is no digit
 pub blank_no_digit : (b : ℕ) → is_skipped b ≡ true → is_ascii_digit b ≡ false
@@ -55,21 +47,15 @@ abbrev find_letter : ℕ → List Letter → Option Letter
 find_letter b [] = None
 find_letter b (x ∷ xs) = cond (eqb (letter_byte x) b) (Some x) (find_letter b xs)
 
-found_by : (d : Dir) (b : Bool) → find_letter (letter_byte (letter_by d b)) letters_all ≡ Some (letter_by d b)
-found_by D true = refl
-found_by L true = refl
-found_by R true = refl
-found_by U true = refl
-found_by D false = refl
-found_by L false = refl
-found_by R false = refl
-found_by U false = refl
+found : (x : Letter) → find_letter (letter_byte x) letters_all ≡ Some x
+found x = each_letter (λ y. find_letter (letter_byte y) letters_all ≡ Some y) (each_way _ refl refl refl refl)
+    (each_way _ refl refl refl refl) x
 
 -- two letters with one byte are one
 pub one_letter : (x y : Letter) → letter_byte x ≡ letter_byte y → x ≡ y
 one_letter x y same =
-    let a : find_letter (letter_byte x) letters_all ≡ Some x = found_by x.dir x.push in
-    let b : find_letter (letter_byte y) letters_all ≡ Some y = found_by y.dir y.push in
+    let a = found x in
+    let b = found y in
     cc
 
 search_by : (b : ℕ) (x : Letter) (v : Bool) (rest : Option Letter) → eqb (letter_byte x) b ≡ v → IsLetterByte b ⊎ (rest ≡ None) → IsLetterByte b ⊎
@@ -83,7 +69,7 @@ search_letter b (x ∷ xs) = search_by b x (eqb (letter_byte x) b) (find_letter 
 
 not_letter : (b : ℕ) → find_letter b letters_all ≡ None → ¬ (IsLetterByte b)
 not_letter b none (x, is) =
-    let there : find_letter (letter_byte x) letters_all ≡ Some x = found_by x.dir x.push in
+    let there = found x in
     let here : find_letter (letter_byte x) letters_all ≡ find_letter b letters_all = ap (λ c. find_letter c letters_all) is in
     cc
 

@@ -1,11 +1,11 @@
 -- Replaying letters: the verdict on those that are left is that on all.
-use Rattle.std.proofs.Common.{◌≡◌, ℕ, suc, ◌+◌, ◌<◌, true, false, List, [], ◌∷◌, length, drop, get_or, inl, inr, refl, subst, arith}
-use Rattle.std.proofs.Common.{drop-cons}
+use Rattle.std.proofs.Common.{◌≡◌, ℕ, suc, ◌+◌, ◌<◌, Bool, true, false, not, List, [], ◌∷◌, length, drop, get_or}
+use Rattle.std.proofs.Common.{inl, inr, refl, subst, arith, drop-cons}
 use Rattle.grid.specs.declared.moves.Letter.{Letter}
 use Rattle.grid.specs.Board.{Board, Scene, Walks, Pushes, start}
 use Rattle.lurd.specs.declared.verdict.Verdict.{Verdict}
-use Rattle.lurd.specs.declared.verdict.Verdict.TheVariants.{Blocked, WrongCase}
-use Rattle.lurd.specs.Verdict.{IsBlocked, IsVerdict, IsVerdictFrom}
+use Rattle.lurd.specs.declared.verdict.Verdict.TheVariants.{WrongCase}
+use Rattle.lurd.specs.Verdict.{StepsAs, IsVerdict, IsVerdictFrom}
 
 -- the first i letters lead to the state s with this number of pushes: the verdict on the others, played from s, is that on
 -- all
@@ -41,25 +41,12 @@ lead_on_upper {t = t} letters i d inside upper lead step = record {
   is_rest = λ v is. next_first letters i d inside lead v (inr (inr (t, rw upper step, rw upper is)));
 }
 
--- the next letter is blocked
-pub next_blocked : {board : Board} {s : Scene} {p : ℕ} (letters : List Letter) (i : ℕ) (d : Letter) → i < length letters → LeadTo board letters i p s
-    → IsBlocked board s (get_or letters i d) → IsVerdict board letters (Blocked (i + 1))
-next_blocked letters i d inside lead blocked =
-    next_first letters i d inside lead (Blocked (i + 1)) (inl (blocked, refl))
-
--- the next letter is a walk, in upper case
-pub walk_in_upper : {board : Board} {s t : Scene} {p : ℕ} (letters : List Letter) (i : ℕ) (d : Letter) → i < length letters
-    → (get_or letters i d).push ≡ true → LeadTo board letters i p s → Walks board s (get_or letters i d).dir t
-    → IsVerdict board letters (WrongCase (i + 1))
-walk_in_upper {t = t} letters i d inside upper lead step =
-    next_first letters i d inside lead (WrongCase (i + 1)) (inr (inl ((t, rw upper step), refl)))
-
--- the next letter is a push, in lower case
-pub push_in_lower : {board : Board} {s t : Scene} {p : ℕ} (letters : List Letter) (i : ℕ) (d : Letter) → i < length letters
-    → (get_or letters i d).push ≡ false → LeadTo board letters i p s → Pushes board s (get_or letters i d).dir t
-    → IsVerdict board letters (WrongCase (i + 1))
-push_in_lower {t = t} letters i d inside lower lead step =
-    next_first letters i d inside lead (WrongCase (i + 1)) (inr (inl ((t, rw lower step), refl)))
+-- the next letter has the wrong case
+pub wrong_case : {board : Board} {s : Scene} {p : ℕ} (letters : List Letter) (i : ℕ) (d : Letter) (t : Scene) (b : Bool) →
+    i < length letters → (get_or letters i d).push ≡ b → LeadTo board letters i p s →
+    StepsAs board s (get_or letters i d).dir (not b) t → IsVerdict board letters (WrongCase (i + 1))
+wrong_case letters i d t b inside is lead step =
+    next_first letters i d inside lead (WrongCase (i + 1)) (inr (inl ((t, rw is step), refl)))
 
 -- where the letters lead, one after the other
 pub ruleset leading = (lead_nowhere, lead_on_lower, lead_on_upper)

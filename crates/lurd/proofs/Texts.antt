@@ -4,11 +4,10 @@ use Rattle.std.proofs.Common.{length-append, length-drop}
 use Rattle.std.specs.List.{AllByRecursion, flat_map}
 use Rattle.std.proofs.lemmas.Grind.{flat_map-append}
 use Rattle.std.proofs.Math.Seq.{take-append_seam, take-add}
-use Rattle.std.proofs.lemmas.List.{append-nil, take_more, length-replicate, take-append-drop, length-take-le}
+use Rattle.std.proofs.lemmas.List.{append-nil, take_more, length-replicate, take_rest}
 use Rattle.grid.specs.declared.moves.Letter.{Letter}
 use Rattle.lurd.specs.declared.limits.TheConstants.{MAX_MOVES}
-use Rattle.lurd.specs.declared.fault.LurdFault.{LurdFault}
-use Rattle.lurd.specs.Text.{Piece, blank, item, IsPiece, is_skipped, spelling, meaning, IsText, FaultsAt, HasTextFault}
+use Rattle.lurd.specs.Text.{Piece, blank, item, IsPiece, is_skipped, spelling, meaning, IsText}
 use Rattle.counts.specs.Counts.{repeats}
 use Rattle.lurd.specs.inside.Item.{TakesItem}
 
@@ -68,14 +67,5 @@ text_and_item bytes n times len {letters} {letter} text takes =
     subst (λ (ys : List ℕ). IsText ys (letters ++ replicate times letter)) (sym front)
     (subst (λ (ls : List Letter). IsText (take n bytes ++ spelling p) (letters ++ ls)) (sym same) (text_and_piece p text takes.lawful few))
 
--- a fault behind a text
-pub fault_behind : (bytes : List ℕ) (n : ℕ) {letters : List Letter} {fault : LurdFault} → n ≤ length bytes → IsText (take n bytes) letters →
-    FaultsAt (n + 1) (length letters) (drop n bytes) fault → HasTextFault bytes fault
-fault_behind bytes n {letters} {fault} inside text stands = record {
-  front = take n bytes;
-  letters = letters;
-  rest = drop n bytes;
-  cut = sym (take-append-drop n bytes);
-  text = text;
-  stands = subst (λ k. FaultsAt (k + 1) (length letters) (drop n bytes) fault) (sym (length-take-le n bytes inside)) stands;
-}
+-- a text and what is next in the bytes
+pub ruleset one_piece_more = (text_and_blank, item_within, text_and_item, take_rest)

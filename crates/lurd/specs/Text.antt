@@ -72,7 +72,7 @@ pub record BeginsBadly (bytes : List ℕ) : Type 0 where
   pub no_digit : is_ascii_digit byte ≡ false
   pub no_blank : is_skipped byte ≡ false
 
--- the bytes begin with digits, as many as stand there together, that are no count, or have no letter right after them
+-- the bytes begin with a longest run of digits that is no count, or has no letter right after it
 pub record BeginsWithBadCount (bytes : List ℕ) : Type 0 where
   pub digits : List ℕ
   pub more : List ℕ
@@ -98,7 +98,7 @@ FaultsAt place moves bytes (BadCount at) = (at ≡ place) × BeginsWithBadCount 
 FaultsAt place moves bytes TooManyMoves = BeginsWithTooMany moves bytes
 FaultsAt place moves bytes OutOfMemory = ⊥
 
--- the fault is the first in the bytes: what stands before it is a text
+-- the fault is the first in the bytes: those before it are a text
 pub record HasTextFault (bytes : List ℕ) (fault : LurdFault) : Type 0 where
   pub front : List ℕ
   pub letters : List Letter

@@ -20,6 +20,7 @@ pub(crate) struct Item {
 
 /// Reads the letter at the start of the bytes, and its count if it has one, after `moves` moves. `at` is the index of
 /// the first byte in the text, for the fault.
+#[tactic(auto, using(crate::proofs::Items::fault_of_item))]
 pub(crate) fn read_item(bytes: &[u8], at: usize, moves: usize) -> Result<Item, LurdFault>
     requires some { 0 < length bytes.now }
     requires no_blank { is_skipped (slice_index bytes.now 0) ≡ false }

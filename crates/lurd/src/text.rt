@@ -11,6 +11,7 @@ use std::alloc::{AllocError, Global};
 /// A text is letters `l`, `u`, `r`, `d`, `L`, `U`, `R`, `D`, each with an optional count before it, and blanks between
 /// them: spaces, tabs, CR and LF. The grammar is in `specs/Text.antt`. Fails with the first [`LurdFault`] of the text,
 /// or if out of memory.
+#[tactic(auto, using(crate::proofs::Texts::one_piece_more))]
 pub fn parse(alloc: Global, text: &[u8]) -> Result<Moves, LurdFault>
     ensures ok { IfOk result (λ moves. IsText text.now moves) }
     ensures err { IfErr result (λ fault. (fault ≡ LurdFault.OutOfMemory) ⊎ HasTextFault text.now fault) }

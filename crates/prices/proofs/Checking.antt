@@ -1,7 +1,7 @@
 -- That what the check looks at makes the distances lower bounds.
-use Rattle.std.proofs.Common.{◌≡◌, ◌<◌, ◌&&◌, ◌||◌, ℕ, zero, suc, Bool, true, false, cond, eqb, Some, List, [], ◌∷◌}
+use Rattle.std.proofs.Common.{◌≡◌, ◌<◌, ◌||◌, ℕ, zero, suc, Bool, true, false, cond, eqb, Some, List, [], ◌∷◌}
 use Rattle.std.proofs.Common.{length, get_or, slice_get, take, drop, refl, sym, ap, subst, ◌∙◌, arith}
-use Rattle.std.proofs.lemmas.Bool.{and_parts, eqb-true, false≢true}
+use Rattle.std.proofs.lemmas.Bool.{eqb-true, false≢true}
 use Rattle.std.specs.Cmp.{both_ways}
 use Rattle.grid.specs.Board.{Board, next, opposite}
 use Rattle.grid.specs.Squares.{contains}
@@ -9,7 +9,7 @@ use Rattle.grid.proofs.lemmas.Steps.{inside_grid, next_back}
 use Rattle.prices.specs.declared.table.Side.{Side}
 use Rattle.prices.specs.declared.table.DistanceTable.{DistanceTable}
 use Rattle.prices.specs.Prices.{AreFar, CanStand, goals_of}
-use Rattle.prices.specs.inside.Checks.{AreClosed, AreNoneAtHome, DistancesLessenByOne, KeepRows, StayAway}
+use Rattle.prices.specs.inside.Checks.{AreClosed, AreZeroAtHome, DistancesLessenByOne, KeepRows, StayAway}
 use Rattle.prices.specs.inside.Tables.{far_in, has_number, number_of, place_in, row_by, row_in, sides_of, spot_of}
 use Rattle.prices.proofs.lemmas.Goals.{contains-goals}
 use Rattle.prices.proofs.lemmas.Tables.{place_inside}
@@ -58,7 +58,7 @@ at_place (x ∷ xs) q d here = at_head (eqb x q) (eqb-true x q) (λ h. at_place 
 -- where the rows of each goal have a 0 at its place, no goal is far from a box on it
 pub none_at_home : (board : Board) (t : DistanceTable)
     → ((i p : ℕ) → i < length t.goals.items → p < length board.cells
-    → get_or (row_in t (get_or t.goals.items i 0) p) i 0 ≡ 0) → AreNoneAtHome board t
+    → get_or (row_in t (get_or t.goals.items i 0) p) i 0 ≡ 0) → AreZeroAtHome board t
 none_at_home board t none g p there inside =
     let i = place_in t.goals.items g in
     subst (λ (x : ℕ). get_or (row_in t x p) i 0 ≡ 0) (at_place t.goals.items g 0 there)
@@ -66,13 +66,7 @@ none_at_home board t none g p there inside =
 
 -- ---- all together
 
-pub are_all : (x y z : Bool) → ((x && y) && z) ≡ true → (x ≡ true) × (y ≡ true) × (z ≡ true)
-are_all x y z all =
-    let last = and_parts (x && y) z all in
-    let first = and_parts x y last.0 in
-    (first.0, first.1, last.1)
-
-pub are_far : (board : Board) (t : DistanceTable) → t.goals.items ≡ goals_of board → KeepRows board t → AreNoneAtHome board t
+pub are_far : (board : Board) (t : DistanceTable) → t.goals.items ≡ goals_of board → KeepRows board t → AreZeroAtHome board t
     → DistancesLessenByOne board t
     → AreFar board (far_in t)
 are_far board t goals kept none less = record {
@@ -91,30 +85,3 @@ are_far board t goals kept none less = record {
 pub stay_away : (board : Board) (t : DistanceTable) → DistancesLessenByOne board t → StayAway board (far_in t)
 stay_away board t less g p d here ahead =
     (less p d (inside_grid board p here.player) here.player here.floor ahead.floor).never (place_in t.goals.items g)
-
-nothing : (n k i : ℕ) → let none : List ℕ = [] in get_or (take n (drop k none)) i 0 ≡ 0
-nothing zero zero i = refl
-nothing zero (suc k) i = refl
-nothing (suc n) zero i = refl
-nothing (suc n) (suc k) i = refl
-
-zero_far : (t : DistanceTable) → t.far.items ≡ [] → (g b p : ℕ) → far_in t g b p ≡ 0
-zero_far t none g b p =
-    let start = row_by (sides_of t.spots.items t.sides.items b) (spot_of t.spots.items p).number
-    (spot_of t.spots.items b).row in
-    let i = place_in t.goals.items g in
-    ap (λ (xs : List ℕ). get_or (take (length t.goals.items) (drop start xs)) i 0) none
-    ∙ nothing (length t.goals.items) start i
-
--- no distances at all say that no box needs a push
-pub none_far : (board : Board) (t : DistanceTable) → t.far.items ≡ [] → AreFar board (far_in t)
-none_far board t none = record {
-  home = λ g p goal stands. zero_far t none g g p;
-  walk = λ g b p d here there. (let e = zero_far t none g b p in omega (arith, e));
-  push = λ g p d here ahead. (let e = zero_far t none g (next board p d) p in omega (arith, e));
-}
-
--- and that each can be brought to each goal
-pub none_away : (board : Board) (t : DistanceTable) → t.far.items ≡ [] → StayAway board (far_in t)
-none_away board t none g p d here ahead never = let e = zero_far t none g (next board p d) p in
-    absurd (omega (arith, e, never))

@@ -1,7 +1,8 @@
 -- Goals as they are gathered, one square after the other.
 use Rattle.std.proofs.Common.{◌≡◌, ℕ, ◌+◌, ◌<◌, true, false, eqb, eq-eqb, List, [], ◌∷◌, ◌++◌, length, inl, inr, refl}
 use Rattle.std.proofs.Common.{sym, ap, subst, ◌∙◌, arith}
-use Rattle.std.proofs.lemmas.Bool.{cases_lt, false≢true, or_left, or_right, true≢false}
+use Rattle.std.proofs.lemmas.Bool.{cases_lt, eqb-false, eqb-true, true≢false}
+use Rattle.std.proofs.lemmas.Grind.{common_steps}
 use Rattle.std.proofs.lemmas.List.{get_or_past}
 use Rattle.grid.specs.declared.cell.Cell.TheVariants.{Wall}
 use Rattle.grid.specs.Squares.{contains}
@@ -18,44 +19,13 @@ pub record AreGoalsBelow (board : Board) (k : ℕ) (gs : List ℕ) : Type 0 wher
   pub goals : (q : ℕ) → contains gs q ≡ true → is_goal board q ≡ true
   pub all : (q : ℕ) → q < k → is_goal board q ≡ true → contains gs q ≡ true
 
-pub none_gathered : (board : Board) → AreGoalsBelow board 0 []
-none_gathered board = record {
-  rising = refl;
-  below = λ q there. absurd (false≢true there);
-  goals = λ q there. absurd (false≢true there);
-  all = λ q lt goal. absurd (omega arith);
-}
-
 pub goal_gathered : (board : Board) (k : ℕ) (gs : List ℕ) → AreGoalsBelow board k gs → is_goal board k ≡ true
     → AreGoalsBelow board (k + 1) (gs ++ k ∷ [])
-goal_gathered board k gs are goal = record {
-  rising = is_rising-push gs k are.rising are.below;
-  below = λ q there. elim (contains-push_cases gs k q there) [
-    | inl here ↦ let lt = are.below q here in omega (arith, lt)
-    | inr e ↦ omega (arith, e)
-  ];
-  goals = λ q there. elim (contains-push_cases gs k q there) [
-    | inl here ↦ are.goals q here
-    | inr e ↦ subst (λ (x : ℕ). is_goal board x ≡ true) e goal
-  ];
-  all = λ q lt h. contains-push gs k q ∙ elim (cases_lt q k) [
-    | inl less ↦ or_left (contains gs q) (eqb k q) (are.all q less h)
-    | inr le ↦ or_right (contains gs q) (eqb k q) (eq-eqb k q (omega (arith, lt, le)))
-  ];
-}
+goal_gathered board k gs are goal = grind (arith, common_steps, is_rising-push, contains-push, eqb-true, eqb-false)
 
 pub other_passed : (board : Board) (k : ℕ) (gs : List ℕ) → AreGoalsBelow board k gs → is_goal board k ≡ false
     → AreGoalsBelow board (k + 1) gs
-other_passed board k gs are none = record {
-  rising = are.rising;
-  below = λ q there. (let lt = are.below q there in omega (arith, lt));
-  goals = are.goals;
-  all = λ q lt h. elim (cases_lt q k) [
-    | inl less ↦ are.all q less h
-    | inr le ↦ let e : q ≡ k = omega (arith, lt, le) in
-        absurd (true≢false (sym h ∙ (ap (λ (x : ℕ). is_goal board x) e ∙ none)))
-  ];
-}
+other_passed board k gs are none = grind (arith, common_steps)
 
 goal_inside : (board : Board) (q : ℕ) → is_goal board q ≡ true → q < length board.cells
 unfolding is_goal

@@ -100,14 +100,18 @@ none_above board far s = ((λ g. 0), 0, (let e = no_tolls (goals_of board) in om
 -- what the boxes need above the sum of a list of tolls comes of tolls
 pub needs_above : (board : Board) (t : DistanceTable) (tolls : List ℕ) (s : Scene) (needs sum : ℕ)
     → t.goals.items ≡ goals_of board → length tolls ≡ length t.goals.items
-    → needs ≤ sum_over (λ b. need_by t tolls b s.player) s.boxes → sum ≡ sum_all tolls
+    → needs ≡ sum_over (λ b. need_seen t tolls b s.player) s.boxes → sum ≡ sum_all tolls
     → ComesOfTolls board (far_in t) s (needs - sum)
-needs_above board t tolls s needs sum goals size le paid = elim (cases_lt needs sum) [
+needs_above board t tolls s needs sum goals size seen paid = elim (cases_lt needs sum) [
   | inl less ↦ subst (ComesOfTolls board (far_in t) s) (let e : 0 ≡ needs - sum = omega (arith, less) in
       e) (none_above board (far_in t) s)
-  | inr enough ↦ (toll, greatest, omega (arith, pay, same, need, le, paid, enough))
+  | inr enough ↦ (toll, greatest, omega (arith, pay, same, need, low, seen, paid, enough))
 ]
   where
+    low : sum_over (λ b. need_seen t tolls b s.player) s.boxes ≤ sum_over (λ b. need_by t tolls b s.player) s.boxes
+    low = sum_le (λ b. need_seen t tolls b s.player) (λ b. need_by t tolls b s.player) s.boxes
+        (λ b there. seen_low t tolls b s.player size)
+
     toll : ℕ → ℕ
     toll = number_of t.goals.items tolls
 

@@ -17,7 +17,7 @@ NeverHelps board m s b d =
     (x y : Scene) (ds : List Dir) (ps : List Push) (n : ℕ) → Play board (λ z. contains z.boxes b ≡ true) s ds ps x
     → Pushes board x d y → next board x.player d ≡ b → length ps + suc n ≤ m → ¬ (SolvableWithin board n y)
 
--- so made at once it leads to nothing
+-- after a push that never helps, no play with the pushes that are left ends solved
 abbrev pub NeverLeadsOn : Board → Type 0
 NeverLeadsOn board = (left : ℕ) (s t : Scene) (p : Push) → IsScene board s →
     NeverHelps board (suc left) s p.square p.dir → IsPushed board s p t

@@ -44,7 +44,7 @@ NeedsHold board =
     → (s t : Scene) (ds : List Dir) (ps : List Push) → IsScene board s → Play board Any s ds ps t → IsSolved board t
     → total_need need s ≤ length ps + sum_over toll (goals_of board)
 
--- so where they need more than m above the tolls, no play with at most m pushes ends solved
+-- if the boxes need more than m pushes above the tolls, no play with at most m pushes ends solved
 abbrev pub NeedsRefuse : Board → Type 0
 NeedsRefuse board =
     (toll : ℕ → ℕ) (need : ℕ → ℕ → ℕ) (m : ℕ) (s : Scene) → IsNeed board toll need → IsScene board s

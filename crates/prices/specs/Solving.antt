@@ -18,12 +18,12 @@ abbrev pub NoneWithin : Board → ℕ → Scene → Type 0
 NoneWithin board m s =
     (ds : List Dir) (ps : List Push) (t : Scene) → Play board Any s ds ps t → IsSolved board t → m < length ps
 
--- m pushes are no more than a cap allows; without a cap every number is
+-- the cap allows m pushes; without a cap every number is allowed
 abbrev pub Allows : Option ℕ → ℕ → Type 0
 Allows None m = Unit {0}
 Allows (Some most) m = m ≤ most
 
--- that none does is that the state is not solvable within m
+-- no play within m pushes ends solved exactly if the state is not solvable within m
 abbrev pub NoneIsNotSolvable : Board → Type 0
 NoneIsNotSolvable board = (m : ℕ) (s : Scene) → NoneWithin board m s ↔ ¬ (SolvableWithin board m s)
 
@@ -53,6 +53,6 @@ abbrev pub WalksChangeNothing : Board → Type 0
 WalksChangeNothing board =
     (s t : Scene) (ds : List Dir) → IsScene board s → Play board Any s ds [] t → AreAlike board s t
 
--- nor does the normal form
+-- a state and its normal form are solvable within the same numbers of pushes
 abbrev pub NormsChangeNothing : Board → Type 0
 NormsChangeNothing board = (s n : Scene) → IsScene board s → IsNorm board s n → AreAlike board s n

@@ -1,7 +1,7 @@
 //! The proved check that distances are lower bounds: one step of the player, or one push, at a time.
 ghost use Rattle.std.specs.Prelude.{◌≡◌, ℕ, ◌<◌, IsTrue, true, length, slice_index_or};
 ghost use Rattle.prices.specs.Prices.{AreFar, CanStand, goals_of};
-ghost use Rattle.prices.specs.inside.Checks.{AreClosed, AreNoneAtHome, AreWithinOne, DistancesLessenByOne, IsClosed};
+ghost use Rattle.prices.specs.inside.Checks.{AreClosed, AreZeroAtHome, AreWithinOne, DistancesLessenByOne, IsClosed};
 ghost use Rattle.prices.specs.inside.Checks.{KeepRows, LessensByOne, StayAway, StaysIn};
 ghost use Rattle.prices.specs.inside.Tables.{far_in, row_in, has_number, spot_of};
 
@@ -23,18 +23,20 @@ pub(crate) fn make_sure(level: &Level, table: &mut DistanceTable)
 }
 
 // Whether the distances are lower bounds.
+#[tactic(auto, using(crate::proofs::Checking::stay_away))]
 fn are_far(level: &Level, table: &DistanceTable) -> bool
     requires { table.now.goals.items ≡ goals_of level.now }
     ensures far { IsTrue result → AreFar level.now (far_in table.now) }
     ensures away { IsTrue result → StayAway level.now (far_in table.now) }
 {
     let kept = keep_rows(level, table);
-    let none = are_none_at_home(level, table);
+    let none = are_zero_at_home(level, table);
     let less = lessen_by_one(level, table);
     kept & none & less
 }
 
 // Whether steps of the player without a push stay on one side of each lone box.
+#[tactic(auto, using(crate::proofs::Checking::rows_kept))]
 fn keep_rows(level: &Level, table: &DistanceTable) -> bool
     ensures { IsTrue result → KeepRows level.now table.now }
 {
@@ -60,6 +62,7 @@ fn are_closed(level: &Level, table: &DistanceTable, square: Square) -> bool
 }
 
 // Whether no step of the player that does not push a lone box on the square leaves this side of it.
+#[tactic(auto, using(grid::proofs::lemmas::Steps::inside_grid))]
 fn is_closed(level: &Level, table: &DistanceTable, square: Square, side: Side) -> bool
     ensures { IsTrue result → IsClosed level.now table.now square side }
 {
@@ -102,11 +105,12 @@ fn is_in(level: &Level, table: &DistanceTable, square: Square, side: Side, playe
 }
 
 // Whether a box on a goal has distance 0 to it, wherever the player is.
-fn are_none_at_home(level: &Level, table: &DistanceTable) -> bool
-    ensures { IsTrue result → AreNoneAtHome level.now table.now }
+#[tactic(auto, using(crate::proofs::Checking::none_at_home))]
+fn are_zero_at_home(level: &Level, table: &DistanceTable) -> bool
+    ensures { IsTrue result → AreZeroAtHome level.now table.now }
 {
     for (place, goal) in table.goals.as_slice().iter().enumerate() {
-        if !is_none_at_home(level, table, place, *goal) {
+        if !is_zero_at_home(level, table, place, *goal) {
             return false;
         }
     }
@@ -114,7 +118,7 @@ fn are_none_at_home(level: &Level, table: &DistanceTable) -> bool
 }
 
 // Whether a box on a goal with this index has distance 0 to it, wherever the player is.
-fn is_none_at_home(level: &Level, table: &DistanceTable, place: usize, goal: Square) -> bool
+fn is_zero_at_home(level: &Level, table: &DistanceTable, place: usize, goal: Square) -> bool
     ensures { IsTrue result → (p : ℕ) → p < length level.now.cells →
         slice_index_or (row_in table.now goal p) place 0 ≡ 0 }
 {
@@ -163,6 +167,7 @@ fn lessen_from(level: &Level, table: &DistanceTable, player: Square) -> bool
 }
 
 // Whether a push of the player from a square lessens each distance of the box by at most one.
+#[tactic(auto, using(grid::proofs::lemmas::Steps::inside_grid))]
 fn lessens_by_one(level: &Level, table: &DistanceTable, player: Square, dir: Dir) -> bool
     requires { player < length level.now.cells }
     ensures { IsTrue result → LessensByOne level.now table.now player dir }

@@ -81,6 +81,7 @@ impl Distances {
     /// Whether some boxes can come only to goals that are fewer than these boxes: then no play from the position ends
     /// solved. The matching is that of the position, as `lower` or `meet` leaves it; with another the result may be
     /// `false`, which says nothing. Takes no memory.
+    #[tactic(auto, using(crate::proofs::Losing::more_than_goals))]
     pub fn is_lost(&self, position: &Position, matching: &Matching) -> bool
         requires { IsScene self.now.level position.now }
         ensures { IsTrue result → IsLost self.now.level position.now }
@@ -143,6 +144,7 @@ impl Distances {
     }
 
     // What the boxes need above the sum of these tolls; 0 if there is not one toll for each goal.
+    #[tactic(auto, using(crate::proofs::Sums::none_above))]
     fn needs_above(&self, position: &Position, tolls: &[u32]) -> u64
         requires { length tolls.now ≤ MAX_BOXES }
         ensures { ComesOfTolls self.now.level (far_in self.now.table) position.now result }
@@ -171,6 +173,7 @@ fn empty_table(alloc: Global, level: &Level) -> Result<DistanceTable, AllocError
 }
 
 // The squares with goals, in rising order.
+#[tactic(auto, using(crate::proofs::Goals::all_gathered))]
 fn goal_squares(alloc: Global, level: &Level) -> Result<Vec<Square>, AllocError>
     ensures { IfOk result (λ goals. goals.items ≡ goals_of level.now) }
 {

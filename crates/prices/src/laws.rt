@@ -17,6 +17,7 @@ pub fn a_first_push_leads_on(level: &Level)
 
 /// The laws of needs: no play that ends solved has fewer pushes than the boxes need above the tolls of the goals; and
 /// for any tolls, the least sum of distance and toll is a need.
+#[tactic(auto, using(crate::proofs::lemmas::Prices::bounds))]
 pub fn needs_are_bounds(level: &Level)
     ensures hold { NeedsHold level.now }
     ensures refuse { NeedsRefuse level.now }

@@ -35,8 +35,8 @@ impl DistanceTable {
     }
 }
 
-#[tactic(auto, using(crate::proofs::Sums::least_sum_most))]
 // The least sum of a number and the other with its index, at most the greatest number of the type.
+#[tactic(auto, using(crate::proofs::Sums::least_sum_most))]
 fn least_sum(numbers: &[u32], others: &[u32]) -> u32
     requires { length numbers.now ≡ length others.now }
     ensures most { result ≤ greatest }

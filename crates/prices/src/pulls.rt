@@ -79,6 +79,7 @@ impl GoalPulls {
     }
 
     // Pulls the box by one square, if the player has two free squares there and is on this side of it.
+    #[tactic(auto, using(grid::proofs::lemmas::Steps::inside_grid))]
     fn pull(
         &mut self,
         level: &Level,

@@ -37,8 +37,8 @@ impl<'a> Model for Slack<'a> {
 }
 
 impl<'a> Slack<'a> {
-    /// The slack of a position with `left` pushes after the next one; `None` is any number. The matching may be any:
-    /// that of the position leaves least.
+    /// The slack of a position with `left` pushes after the next one, or any number if `left` is `None`. Any matching
+    /// will do; that of the position leaves least.
     pub fn of(
         distances: &'a Distances,
         position: &'a Position,
@@ -85,6 +85,7 @@ impl<'a> Slack<'a> {
     /// A lower bound on the pushes of a play that solves the position and begins a box's way with this push, with the
     /// push itself. With a matching made afresh for the position it is [`NEVER`](crate::NEVER) or more if the box, or
     /// another one, can come to no goal then.
+    #[tactic(auto, using(grid::proofs::lemmas::Steps::inside_grid))]
     pub fn least(&self, square: Square, dir: Dir) -> u64
         requires { contains self.now.scene.boxes square ≡ true }
         ensures { (m : ℕ) → m < result → NeverHelps self.now.board m self.now.scene square dir }

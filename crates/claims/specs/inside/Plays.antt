@@ -26,7 +26,7 @@ after_swap p (suc n) h = with_taken p h
 abbrev pub after_draw : ℕ → ℕ → Hand → Hand
 after_draw len found h = if nat_lt found len then with_number found h else spent_out h
 
--- enrol: one swap of the word of a place, which stands at one more than its number
+-- enrol: one swap of the word of a place; its index is the place's number plus one
 abbrev pub enrols : Step (Unit {0}) → Sat → ℕ → Sat → Type 0
 enrols st me found me' = me' ≡ sat me.0.len (after_swap (st.word - 1) found (first_hand me.0.hands))
 
@@ -39,7 +39,7 @@ abbrev pub draws : Step (Unit {0}) → Sat → ℕ → Sat → Type 0
 draws st me found me' = (me' ≡ sat me.0.len (after_draw me.0.len found (first_hand me.0.hands))) ×
     All (λ x. x < found) (first_hand me.0.hands).numbers
 
--- such an addition keeps the rule
+-- an addition to the next number keeps the rule
 abbrev pub MayAddOne : ℕ → ℕ → ℕ → Sat → Type 0
 MayAddOne len slots id me = Allows (holds len) slots id me 0 (λ n. (n + 1) % 2 ^ 64) (draws (one_more slots) me)
 

@@ -28,6 +28,6 @@ abbrev pub has_to_change : Board → Squares → Squares → Bool
 has_to_change board boxes squares =
     list_any (λ q. not (is_goal board q)) boxes || list_any (λ q. is_goal board q) squares
 
--- on the square stands a box, all of whose pushes that could be the first of a held box are ready
+-- the square has a box, and each of its pushes is ready
 abbrev pub IsReadyBox : Board → ℕ → (ℕ → Bool) → (ℕ → Bool) → Scene → ℕ → Type 0
 IsReadyBox board m held room s b = (contains s.boxes b ≡ true) × ((d : Dir) → IsReady board m held room s b d)

@@ -14,8 +14,8 @@ pub record GroundView : Type 0 where
 abbrev pub ground_view : Inside → GroundView
 ground_view a = record { board = a.level.now; scene = a.position.now; left = a.slack.now.left }
 
--- the position is one of the level; the dead squares are the level's, and the last flood was that of the position,
--- and so is the slack
+-- the position is one of the level; the dead squares are the level's, and the last flood and the slack are those of the
+-- position
 pub record IsFlooded (a : Inside) : Type 0 where
   pub fits : FitsLevel a.level.now a.position.now
   pub dead_of_level : a.dead.now ≡ a.level.now

@@ -106,3 +106,6 @@ solution_of_solved board letters pushes moves is =
 pub solved_of_solution : (board : Board) (ds : List Dir) (ps : List Push) → IsSolution board ds ps → (letters : List Letter) × (dirs_of letters ≡ ds) ×
     IsVerdict board letters (Solved (length ps) (length ds))
 solved_of_solution board ds ps (t, play, end) = (letters_of play, dirs_of_play play, solved_from play 0 0 (length ps) (length ds) end (omega arith) (omega arith))
+
+-- solutions and the verdict on the letters that write them
+pub ruleset of_solution = (solution_of_solved, solved_of_solution)

@@ -189,3 +189,6 @@ tolls_are_free board far toll cap are = record {
       omega (arith, le)
       );
 }
+
+-- needs are lower bounds
+pub ruleset bounds = (needs_hold, needs_refuse, tolls_are_free)

@@ -19,7 +19,7 @@ StaysIn board t b side p d = let q = next board p d in
 abbrev pub IsClosed : Board → DistanceTable → ℕ → Side → Type 0
 IsClosed board t b side = (p : ℕ) (d : Dir) → StaysIn board t b side p d
 
--- nor out of any side
+-- no step leads out of any side of a lone box on b
 abbrev pub AreClosed : Board → DistanceTable → ℕ → Type 0
 AreClosed board t b =
     (i : ℕ) (side : Side) → slice_get (sides_of t.spots.items t.sides.items b) i ≡ Some side → IsClosed board t b side
@@ -29,11 +29,11 @@ abbrev pub KeepRows : Board → DistanceTable → Type 0
 KeepRows board t = (b p : ℕ) (d : Dir) → let q = next board p d in
     CanStand board b p → CanStand board b q → row_in t b p ≡ row_in t b q
 
--- a box on a goal is nowhere far from it
-abbrev pub AreNoneAtHome : Board → DistanceTable → Type 0
-AreNoneAtHome board t = (g p : ℕ) → contains t.goals.items g ≡ true → p < length board.cells → far_in t g g p ≡ 0
+-- a box on a goal has distance 0 to it, wherever the player is
+abbrev pub AreZeroAtHome : Board → DistanceTable → Type 0
+AreZeroAtHome board t = (g p : ℕ) → contains t.goals.items g ≡ true → p < length board.cells → far_in t g g p ≡ 0
 
--- no number is greater than the other at its place by more than one, and beside one of `NEVER` or more stands another
+-- each number is at most one greater than its partner, and the partner of one of `NEVER` or more is `NEVER` or more
 pub record AreWithinOne (xs ys : List ℕ) : Type 0 where
   pub within : (i : ℕ) → slice_index_or xs i 0 ≤ suc (slice_index_or ys i 0)
   pub never : (i : ℕ) → NEVER ≤ slice_index_or xs i 0 → NEVER ≤ slice_index_or ys i 0
@@ -44,7 +44,7 @@ LessensByOne board t p d = let q = next board p d in let r = next board q d in
     is_wall board p ≡ false → is_wall board q ≡ false → is_wall board r ≡ false →
     AreWithinOne (row_in t q p) (row_in t r q)
 
--- so does each push
+-- each push lessens each distance of its box by one at most, and leaves one of `NEVER` so
 abbrev pub DistancesLessenByOne : Board → DistanceTable → Type 0
 DistancesLessenByOne board t = (p : ℕ) (d : Dir) → p < length board.cells → LessensByOne board t p d
 

@@ -4,7 +4,7 @@ use Rattle.prices.specs.declared.pulls.TheConstants.{NEVER}
 use Rattle.prices.specs.declared.table.DistanceTable.{DistanceTable}
 use Rattle.prices.specs.inside.Tables.{row_in}
 
--- where no mark is, the distance is `NEVER` or more
+-- each distance without a mark is `NEVER` or more
 abbrev pub marks_all : List ℕ → List Bool → Bool
 marks_all [] ms = true
 marks_all (x ∷ xs) [] = false

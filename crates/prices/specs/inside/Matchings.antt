@@ -1,4 +1,4 @@
--- What is kept of a matching from one position to the next.
+-- The part of a matching that the next position keeps.
 use Rattle.std.specs.Prelude.{◌≡◌}
 use Rattle.prices.specs.declared.matching.Matching.{Matching}
 

@@ -1,4 +1,4 @@
--- What is left above what boxes need.
+-- The pushes that are left above the needs of the boxes.
 use Rattle.std.specs.Prelude.{◌≡◌, ℕ, List, drop, length, take}
 use Rattle.grid.specs.States.{IsScene}
 use Rattle.prices.specs.Helping.{SlackView}

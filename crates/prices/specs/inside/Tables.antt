@@ -22,7 +22,7 @@ spot_of spots q = slice_index_or spots q (record { number = 0; first = 0; count 
 abbrev pub sides_of : List Spot → List Side → ℕ → List Side
 sides_of spots sides b = let spot = spot_of spots b in take spot.count (drop spot.first sides)
 
--- where the distances of a box stand, the player being on the second square
+-- the index of a box's first distance, with the player on the second square
 abbrev pub row_start : List Spot → List Side → ℕ → ℕ → ℕ
 row_start spots sides b p = row_by (sides_of spots sides b) (spot_of spots p).number (spot_of spots b).row
 

@@ -3,7 +3,7 @@ use Rattle.std.proofs.lemmas.Iterator.Adapters.{YieldsList-from_vec}
 use Rattle.std.proofs.lemmas.Iterator.Consumers.{YieldsList-turn}
 use Rattle.claims.specs.Hands.{DrawerView}
 use Rattle.claims.specs.inside.Plays.{Sat}
-use Rattle.claims.proofs.Auditing.{enters_gathered, joins_gathered, gathered_more}
+use Rattle.claims.proofs.Auditing.{enters_gathered, joins_gathered}
 use Rattle.claims.proofs.ledger.gathered.Goals as goal
 
 pub load_new_seat-seat-requires : goal.load_new_seat-seat-requires
@@ -24,11 +24,3 @@ join_seat-requires c =
       omega arith,
       joins_gathered _ _ c.loop-drawer.seat.me _ c.drawer.inside c.in-Some.drawer c.loop-drawer.invariant.hands c.drawer.view_is fits.1,
     )
-
-pub loop-drawer-preserved : goal.loop-drawer-preserved
-loop-drawer-preserved c = record {
-  table = c.join_seat.ensures.0 ∙ c.loop-drawer.invariant.table;
-  hands = c.join_seat.ensures.2 ∙
-      gathered_more _ c.loop-drawer.seat.me c.loop-drawer.yielded c.drawer.inside c.in-Some.drawer c.loop-drawer.invariant.hands c.drawer.view_is
-      c.drawer.invariant;
-}

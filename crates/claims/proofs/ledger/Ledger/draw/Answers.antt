@@ -7,7 +7,7 @@ use Rattle.claims.proofs.ledger.Ledger.draw.Goals as goal
 pub draw_next-found-requires : goal.draw_next-found-requires
 draw_next-found-requires c =
     let sound = c.drawer.invariant in
-    let len = agrees c.drawer.inside c.self.inside c.args.drawer.now c.args.self.now c.drawer.view_is c.self.view_is c.requires c.self.invariant in
+    let len = agrees c.drawer.inside c.self.inside _ _ c.drawer.view_is c.self.view_is c.requires c.self.invariant in
     let words = c.self.invariant.0 in
     record {
       seat = (search rules, omega arith);

@@ -7,7 +7,7 @@ use Rattle.claims.proofs.ledger.Ledger.enrol.Goals as goal
 pub swap-is_free-requires : goal.swap-is_free-requires
 swap-is_free-requires c =
     let sound = c.drawer.invariant in
-    let len = agrees c.drawer.inside c.self.inside c.args.drawer.now c.args.self.now c.drawer.view_is c.self.view_is c.requires c.self.invariant in
+    let len = agrees c.drawer.inside c.self.inside _ _ c.drawer.view_is c.self.view_is c.requires c.self.invariant in
     let near = c.if-place-ge-PLACES.false in
     let is = c.from-word.ensures in
     let words = c.self.invariant.0 in

@@ -2,4 +2,4 @@ use Rattle.claims.proofs.Opening.{opens}
 use Rattle.claims.proofs.ledger.Ledger.new.Goals as goal
 
 pub of_words-requires : goal.of_words-requires
-of_words-requires c = let short = c.ranges.len.fits in opens c.args.len short
+of_words-requires c = opens c.args.len c.ranges.len.fits
