@@ -22,17 +22,20 @@ below None next m more allowed = omega (arith, more, allowed)
 below (Some most) next m more allowed = omega (arith, more, allowed)
 
 -- what a total tightens the cap to is less than the total
-pub lesser_below : (cap next : Option ℕ) (total m : ℕ) → 0 < m → Allows (tighter cap (lesser_total next total)) m → m < total
+pub lesser_below : (cap next : Option ℕ) (total m : ℕ) → 0 < m → Allows (tighter cap (lesser_total next total)) m →
+    m < total
 lesser_below cap None total m more allowed = below cap total m more allowed
-lesser_below cap (Some next) total m more allowed = let lt = below cap (min next total) m more allowed in omega (arith, lt)
+lesser_below cap (Some next) total m more allowed =
+    let lt = below cap (min next total) m more allowed in omega (arith, lt)
 
-narrower : (cap next : Option ℕ) (total m : ℕ) → Allows (tighter cap (lesser_total next total)) m → Allows (tighter cap next) m
+narrower : (cap next : Option ℕ) (total m : ℕ) → Allows (tighter cap (lesser_total next total)) m →
+    Allows (tighter cap next) m
 narrower cap None total m allowed = loosened cap (Some total) m allowed
 narrower None (Some next) total m allowed = omega (arith, allowed)
 narrower (Some most) (Some next) total m allowed = omega (arith, allowed)
 
-lesser_later : (cap : Option ℕ) (reach : ℕ) (next : Option ℕ) (total : ℕ) → reach < total → Allows cap total → IsLater cap reach next →
-    IsLater cap reach (lesser_total next total)
+lesser_later : (cap : Option ℕ) (reach : ℕ) (next : Option ℕ) (total : ℕ) → reach < total → Allows cap total →
+    IsLater cap reach next → IsLater cap reach (lesser_total next total)
 lesser_later cap reach None total lt allowed later n e =
     subst (λ (k : ℕ). (reach < k) × Allows cap k) (same_Some total n e) (lt, allowed)
 lesser_later cap reach (Some next) total lt allowed later n e =
@@ -46,8 +49,8 @@ lesser_later cap reach (Some next) total lt allowed later n e =
 pub defers_none : (cap : Option ℕ) (reach : ℕ) (next : Option ℕ) → Defers cap reach next next
 defers_none cap reach next = record { narrows = λ m allowed. allowed; later = λ later. later }
 
-pub defers_one : (cap : Option ℕ) (reach : ℕ) (old new : Option ℕ) (total : ℕ) → new ≡ lesser_total old total → reach < total → Allows cap total →
-    Defers cap reach old new
+pub defers_one : (cap : Option ℕ) (reach : ℕ) (old new : Option ℕ) (total : ℕ) → new ≡ lesser_total old total →
+    reach < total → Allows cap total → Defers cap reach old new
 defers_one cap reach old new total is lt allowed = subst (Defers cap reach old) (sym is) (record {
   narrows = λ m. narrower cap old total m;
   later = lesser_later cap reach old total lt allowed;

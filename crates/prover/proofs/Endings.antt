@@ -1,38 +1,42 @@
 -- What the end of a search says, over plain lists of what was found.
-use Rattle.std.proofs.Common.{◌≡◌, ℕ, zero, suc, ◌<◌, List, [], ◌∷◌, length, map, Option, None, Some, inl, inr, refl, sym, ap, subst, arith, max}
+use Rattle.std.proofs.Common.{◌≡◌, ℕ, ◌<◌, List, length, map, Option, None, Some, inl, inr, sym, subst, arith, max}
 use Rattle.std.proofs.lemmas.Bool.{cases_lt}
-use Rattle.std.proofs.lemmas.Option.{none-some, same_Some}
+use Rattle.std.proofs.lemmas.List.{length-map}
 use Rattle.std.specs.Prelude.{slice_get}
-use Rattle.grid.specs.Board.{Board, Scene, IsSolved}
+use Rattle.grid.specs.Board.{Board, IsSolved}
 use Rattle.grid.specs.Lawful.{IsLevel}
 use Rattle.prices.specs.Solving.{Allows}
 use Rattle.successors.specs.Distances.{AreDistinct}
 use Rattle.store.specs.Visited.{Node, VisitedView}
+use Rattle.successors.proofs.lemmas.Lists.{at_map}
 use Rattle.prover.specs.Fewest.{NoneHasFewer, IsReachable, HasMore}
 use Rattle.prover.specs.Frontier.{IsSearchUnderWay, AreFrom, NoneIsOpen}
 use Rattle.prover.specs.inside.Working.{IsLeastOpen, IsSearchOnBoard}
 use Rattle.prover.specs.inside.SearchEnds.{NoneIsAllowed, IsFloor, IsLeastSolved}
 use Rattle.prover.proofs.Openings.{allows_fewer, least_bounds, closed_decides}
 
-pub none_has_fewer : (board : Board) (cap : Option ℕ) (all : List Node) (least : ℕ) → IsLevel board → IsSearchUnderWay board cap all → AreFrom least all →
-    Allows cap least →
-    NoneHasFewer board least
-none_has_fewer board None all least level under from allowed ds ps solution = least_bounds board level None all least under from ds ps solution tt
+none_has_fewer : (board : Board) (cap : Option ℕ) (all : List Node) (least : ℕ) → IsLevel board →
+    IsSearchUnderWay board cap all → AreFrom least all → Allows cap least → NoneHasFewer board least
+none_has_fewer board None all least level under from allowed ds ps solution =
+    least_bounds board level None all least under from ds ps solution tt
 none_has_fewer board (Some most) all least level under from allowed ds ps solution = elim (cases_lt most (length ps)) [
   | inl more ↦ omega (arith, more, allowed)
   | inr few ↦ least_bounds board level (Some most) all least under from ds ps solution few
 ]
 
-pub none_is_allowed : (board : Board) (cap : Option ℕ) (all : List Node) → IsLevel board → IsSearchUnderWay board cap all → NoneIsOpen all → NoneIsAllowed board cap
-none_is_allowed board None all level under closed = λ t ds ps play solved. closed_decides board level None all under closed ds ps (t, play, solved) tt
+pub none_is_allowed : (board : Board) (cap : Option ℕ) (all : List Node) → IsLevel board →
+    IsSearchUnderWay board cap all → NoneIsOpen all → NoneIsAllowed board cap
+none_is_allowed board None all level under closed =
+    λ t ds ps play solved. closed_decides board level None all under closed ds ps (t, play, solved) tt
 none_is_allowed board (Some most) all level under closed = λ ds ps t play solved. elim (cases_lt most (length ps)) [
   | inl more ↦ more
   | inr few ↦ absurd (closed_decides board level (Some most) all under closed ds ps (t, play, solved) few)
 ]
 
 -- what a solved position of the least total says
-pub solved_told : (board : Board) (cap : Option ℕ) (all : List Node) (place least : ℕ) → IsLevel board → IsSearchUnderWay board cap all →
-    IsLeastOpen all place least → ((x : Node) → slice_get all place ≡ Some x → IsSolved board x.position) → IsLeastSolved board cap all place
+pub solved_told : (board : Board) (cap : Option ℕ) (all : List Node) (place least : ℕ) → IsLevel board →
+    IsSearchUnderWay board cap all → IsLeastOpen all place least →
+    ((x : Node) → slice_get all place ≡ Some x → IsSolved board x.position) → IsLeastSolved board cap all place
 solved_told board cap all place least level under (x, at, open_, from) solved =
     let total = (under.sound place x at).total least open_ in
     let bound = none_has_fewer board cap all least level under from total.allowed in record {
@@ -44,14 +48,15 @@ solved_told board cap all place least level under (x, at, open_, from) solved =
     }
 
 -- what the least total says
-pub least_told : (board : Board) (cap : Option ℕ) (all : List Node) (place least : ℕ) → IsLevel board → IsSearchUnderWay board cap all →
-    IsLeastOpen all place least → IsFloor board cap least
+least_told : (board : Board) (cap : Option ℕ) (all : List Node) (place least : ℕ) → IsLevel board →
+    IsSearchUnderWay board cap all → IsLeastOpen all place least → IsFloor board cap least
 least_told board cap all place least level under (x, at, open_, from) =
     let allowed = ((under.sound place x at).total least open_).allowed in
     (none_has_fewer board cap all least level under from allowed, allowed)
 
 -- and the greater one of two such numbers
-pub told_more : (board : Board) (cap : Option ℕ) (a b n : ℕ) → n ≡ max a b → IsFloor board cap a → IsFloor board cap b → IsFloor board cap n
+told_more : (board : Board) (cap : Option ℕ) (a b n : ℕ) → n ≡ max a b → IsFloor board cap a → IsFloor board cap b →
+    IsFloor board cap n
 told_more board cap a b n is first second = (
   (λ ds ps solution. let p = first.0 ds ps solution in let q = second.0 ds ps solution in omega (arith, is, p, q)),
   by cap first.1 second.1,
@@ -62,45 +67,33 @@ told_more board cap a b n is first second = (
     by (Some most) one two = omega (arith, is, one, two)
 
 -- so the greater one of the least total and such a number
-pub floor_then : (board : Board) (cap : Option ℕ) (all : List Node) (place least reach n : ℕ) → n ≡ max least reach → IsLevel board →
-    IsSearchUnderWay board cap all → IsLeastOpen all place least → IsFloor board cap reach → IsFloor board cap n
+floor_then : (board : Board) (cap : Option ℕ) (all : List Node) (place least reach n : ℕ) → n ≡ max least reach →
+    IsLevel board → IsSearchUnderWay board cap all → IsLeastOpen all place least → IsFloor board cap reach →
+    IsFloor board cap n
 floor_then board cap all place least reach n is level under found floor =
     told_more board cap least reach n is (least_told board cap all place least level under found) floor
 
 -- a call that leaves what was found as it was leaves the search under way
-pub under_way_on : {old new : VisitedView} {board : Board} {cap : Option ℕ} → new ≡ old → IsSearchOnBoard board cap old →
-    IsSearchUnderWay board cap new.entries
-under_way_on {board = board} {cap} same searched = (subst (λ (v : VisitedView). IsSearchOnBoard board cap v) (sym same) searched).under_way
+pub under_way_on : {old new : VisitedView} {board : Board} {cap : Option ℕ} → new ≡ old →
+    IsSearchOnBoard board cap old → IsSearchUnderWay board cap new.entries
+under_way_on {board = board} {cap} same searched =
+    (subst (λ (v : VisitedView). IsSearchOnBoard board cap v) (sym same) searched).under_way
 
 -- and the least total tells as much
-pub floor_on : {old new : VisitedView} {board held : Board} {cap : Option ℕ} {reach n : ℕ} (place least : ℕ) → new ≡ old → held ≡ board →
-    IsLevel held → IsSearchOnBoard board cap old → IsLeastOpen new.entries place least → n ≡ max least reach → IsFloor board cap reach → IsFloor board cap n
+pub floor_on : {old new : VisitedView} {board held : Board} {cap : Option ℕ} {reach n : ℕ} (place least : ℕ) →
+    new ≡ old → held ≡ board → IsLevel held → IsSearchOnBoard board cap old → IsLeastOpen new.entries place least →
+    n ≡ max least reach → IsFloor board cap reach → IsFloor board cap n
 floor_on {new = new} {board} {cap = cap} {reach} {n} place least same is level searched found greater floor =
-    floor_then board cap new.entries place least reach n greater (subst (λ (b : Board). IsLevel b) is level) (under_way_on same searched) found floor
+    floor_then board cap new.entries place least reach n greater (subst (λ (b : Board). IsLevel b) is level)
+    (under_way_on same searched) found floor
 
--- nothing is less than 0
-pub told_none : (board : Board) (cap : Option ℕ) → IsFloor board cap 0
-told_none board None = ((λ ds ps solution. omega arith), tt)
-told_none board (Some most) = ((λ ds ps solution. omega arith), omega arith)
-
-position_at : (all : List Node) (i : ℕ) (s : Scene) → slice_get (map (λ (x : Node). x.position) all) i ≡ Some s →
-    (x : Node) × (slice_get all i ≡ Some x) × (x.position ≡ s)
-position_at [] i s e = absurd (none-some s e)
-position_at (x ∷ all) zero s e = (x, refl, same_Some x.position s e)
-position_at (x ∷ all) (suc i) s e = position_at all i s e
-
-same_length : (all : List Node) → length (map (λ (x : Node). x.position) all) ≡ length all
-same_length [] = refl
-same_length (x ∷ all) = ap suc (same_length all)
-
-pub has_more : (board : Board) (cap : Option ℕ) (all : List Node) (limit : ℕ) → IsSearchUnderWay board cap all → AreDistinct (map (λ (x : Node). x.position) all) →
-    limit < length all →
-    HasMore board limit
+pub has_more : (board : Board) (cap : Option ℕ) (all : List Node) (limit : ℕ) → IsSearchUnderWay board cap all →
+    AreDistinct (map (λ (x : Node). x.position) all) → limit < length all → HasMore board limit
 has_more board cap all limit under distinct many = record {
   positions = map (λ (x : Node). x.position) all;
-  many = (let e = same_length all in omega (arith, e, many));
+  many = (let e = length-map all (λ (x : Node). x.position) in omega (arith, e, many));
   different = distinct;
-  reached = λ i s p. (let (x, a, same) = position_at all i s p in
+  reached = λ i s p. (let (x, a, same) = at_map (λ (x : Node). x.position) all i s p in
       let (ds, ps, t, play, norm, long) = (under.sound i x a).reached in
       subst (IsReachable board) same (ds, ps, t, play, norm));
 }

@@ -1,4 +1,4 @@
 -- The lemmas that the proofs of upper crates cite.
-pub mod Faults
+pub mod Lists
 pub mod Pruning
 pub mod Parity

@@ -123,13 +123,13 @@ NothingIsLost board =
     IsLevel board → (cap : Option ℕ) (all : List Node) (m : ℕ) → IsSearchUnderWay board cap all → Allows cap m →
     SolvableWithin board m (start board) → IsOnTheWay board m all
 
--- so each solution that the cap allows has at least as many pushes as the least total of all open positions
+-- each solution that the cap allows has at least k pushes if each open position has a least total of at least k
 abbrev pub LeastBounds : Board → Type 0
 LeastBounds board =
     IsLevel board → (cap : Option ℕ) (all : List Node) (k : ℕ) → IsSearchUnderWay board cap all → AreFrom k all →
     (ds : List Dir) (ps : List Push) → IsSolution board ds ps → Allows cap (length ps) → k ≤ length ps
 
--- and where no position is open, there is no solution that the cap allows
+-- if no position is open, there is no solution that the cap allows
 abbrev pub ClosedDecides : Board → Type 0
 ClosedDecides board = IsLevel board → (cap : Option ℕ) (all : List Node) → IsSearchUnderWay board cap all →
     NoneIsOpen all → (ds : List Dir) (ps : List Push) → IsSolution board ds ps → ¬ (Allows cap (length ps))

@@ -24,15 +24,15 @@ SolutionsAlike board = IsLevel board → (s t u : Scene) (ds es : List Dir) (ps 
 abbrev pub SomeHas : Board → ℕ → Type 0
 SomeHas board pushes = (ds : List Dir) × (ps : List Push) × IsSolution board ds ps × (length ps ≡ pushes)
 
--- the numbers of pushes of all solutions are odd, or all even
+-- all solutions have an odd number of pushes if `odd` is true, and an even one otherwise
 abbrev pub AreOdd : Board → Bool → Type 0
 AreOdd board odd = (pushes : ℕ) → SomeHas board pushes → is_odd pushes ≡ odd
 
--- so a solution has the fewest pushes where there is none with two pushes less
+-- a solution with m + 2 pushes has the fewest if no play within m pushes ends solved
 abbrev pub TwoLessDecide : Board → Type 0
 TwoLessDecide board = IsLevel board → (m : ℕ) → SomeHas board (suc (suc m)) → NoneWithin board m (start board) →
     NoneHasFewer board (suc (suc m))
 
--- and where it has fewer than two
+-- a solution with fewer than two pushes has the fewest
 abbrev pub FewDecide : Board → Type 0
 FewDecide board = IsLevel board → (pushes : ℕ) → SomeHas board pushes → pushes ≤ 1 → NoneHasFewer board pushes

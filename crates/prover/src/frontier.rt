@@ -9,7 +9,8 @@ ghost use Rattle.successors.specs.Distances.{AreDistinct};
 ghost use Rattle.prover.specs.Frontier.{IsFoundWithin, NoneIsOpen};
 ghost use Rattle.std.specs.BinaryHeap.{heap_capacity, heap_items, heap_len};
 ghost use Rattle.prover.specs.inside.Waiting.{tickets};
-ghost use Rattle.prover.specs.inside.Working.{Enters, HasLeastAt, IsLeastOpen, IsQueued, IsWaiting, SameSize, Waits};
+ghost use Rattle.prover.specs.inside.Working.{Enters, HasLeastAt, IsLeastOpen, IsQueued, IsWaiting, SameSize};
+ghost use Rattle.prover.specs.inside.Working.{StillWait, Waits};
 
 use crate::pushing::Expanded;
 use crate::queue::{Queue, Ticket};
@@ -267,8 +268,7 @@ fn insert_open(visited: &Visited, queue: &mut Queue, ticket: Ticket)
     requires { heap_len queue.old.heap < heap_capacity queue.old.heap }
     ensures waits { (x : Node) → slice_get visited.now.entries ticket.place ≡ Some x →
         x.least ≡ Some ticket.least.0 → Waits (heap_items queue.new.heap) ticket.least.0 ticket.place }
-    ensures others { (least place : ℕ) →
-        Waits (heap_items queue.old.heap) least place → Waits (heap_items queue.new.heap) least place }
+    ensures others { StillWait (heap_items queue.old.heap) (heap_items queue.new.heap) }
     ensures aside { queue.new.aside.items ≡ queue.old.aside.items }
 {
     let open = is_open(visited, ticket);

@@ -83,7 +83,7 @@ pub(crate) fn do_picks(pruner: &Pruner<'_>, frontier: &Frontier, lane: &mut Lane
     );
 }
 
-// Does all picks.
+// Expands the positions of all picks.
 fn do_all(
     pruner: &Pruner<'_>,
     frontier: &Frontier,
@@ -101,7 +101,7 @@ fn do_all(
     }
 }
 
-// Does a pick.
+// Expands the position of a pick, and leaves in the pick what was found. If memory runs out, the pick stays undone.
 fn do_pick(pruner: &Pruner<'_>, frontier: &Frontier, pick: &mut Pick, workspace: &mut Workspace<'_>)
     requires size { HasSize pruner.now.board frontier.now }
     requires pick { IsPick pruner.now frontier.now.entries pick.old }

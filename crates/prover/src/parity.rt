@@ -30,8 +30,7 @@ pub(crate) fn next_of(odd: bool, pushes: u32) -> u32
     pushes.saturating_add(1)
 }
 
-// Whether the row and column of a square have an odd sum that counts: on a square with both a box and a goal it counts
-// twice.
+// Whether a square counts for the parity: row and column have an odd sum, and it has a box or a goal, but not both.
 fn turns_parity(level: &Level, square: Square) -> bool
     ensures { result ≡ turns_parity level.now square }
 {

@@ -1,9 +1,9 @@
 //! The queue of open positions.
-ghost use Rattle.std.specs.Prelude.{◌≡◌, ◌+◌, ◌<◌, ◌⊎◌, ◌++◌, ℕ, [], OnOk, IfNone, IfSome, Some, length, slice_get};
+ghost use Rattle.std.specs.Prelude.{◌≡◌, ◌+◌, ◌<◌, ◌++◌, [], OnOk, IfNone, IfSome, Some, length, slice_get};
 ghost use Rattle.std.proofs.Props.{props};
 ghost use Rattle.std.specs.BinaryHeap.{IsHeap, heap_capacity, heap_items, heap_len};
 ghost use Rattle.prover.specs.inside.Tickets.{ticket_cmp};
-ghost use Rattle.prover.specs.inside.Working.{IsFirstTicket, Waits};
+ghost use Rattle.prover.specs.inside.Working.{IsFirstTicket, OthersWait, StillWait, Waits};
 
 use std::alloc::{AllocError, Global};
 use std::cmp::Reverse;
@@ -51,8 +51,7 @@ impl Queue {
     pub(crate) fn insert(&mut self, ticket: Ticket)
         requires { heap_len self.old.heap < heap_capacity self.old.heap }
         ensures waits { Waits (heap_items self.new.heap) ticket.least.0 ticket.place }
-        ensures others { (least place : ℕ) →
-            Waits (heap_items self.old.heap) least place → Waits (heap_items self.new.heap) least place }
+        ensures others { StillWait (heap_items self.old.heap) (heap_items self.new.heap) }
         ensures aside { self.new.aside.items ≡ self.old.aside.items }
     {
         match self.heap.push(ticket) {
@@ -72,8 +71,8 @@ impl Queue {
     /// Sets the ticket with the least total aside. Fails only if out of memory.
     pub(crate) fn set_aside(&mut self, first: Ticket) -> Result<(), AllocError>
         requires { slice_get (heap_items self.old.heap) 0 ≡ Some first }
-        ensures { (least place : ℕ) → Waits (heap_items self.old.heap ++ self.old.aside.items) least place →
-            Waits (heap_items self.new.heap ++ self.new.aside.items) least place }
+        ensures { StillWait (heap_items self.old.heap ++ self.old.aside.items)
+            (heap_items self.new.heap ++ self.new.aside.items) }
     {
         self.aside.push(first)?;
         let _ = self.heap.pop();
@@ -83,10 +82,8 @@ impl Queue {
     /// Takes back the ticket that was set aside last.
     pub(crate) fn pop_aside(&mut self) -> Option<Ticket>
         ensures heap { self.new.heap ≡ self.old.heap }
-        ensures others { IfSome result (λ ticket. (least place : ℕ) →
-            Waits (heap_items self.old.heap ++ self.old.aside.items) least place →
-            Waits (heap_items self.new.heap ++ self.new.aside.items) least place ⊎
-            ((least ≡ ticket.least.0) × (place ≡ ticket.place))) }
+        ensures others { IfSome result (λ ticket. OthersWait ticket
+            (heap_items self.old.heap ++ self.old.aside.items) (heap_items self.new.heap ++ self.new.aside.items)) }
         ensures fewer { IfSome result (λ _. length self.new.aside.items + 1 ≡ length self.old.aside.items) }
         ensures none { IfNone result (self.new.aside.items ≡ []) }
         ensures kept { IfNone result (self.new.aside.items ≡ self.old.aside.items) }
@@ -98,8 +95,7 @@ impl Queue {
     pub(crate) fn drop_first(&mut self)
         ensures first { (first : Ticket) → slice_get (heap_items self.old.heap) 0 ≡ Some first →
             (length (heap_items self.new.heap) + 1 ≡ length (heap_items self.old.heap)) ×
-            ((least place : ℕ) → Waits (heap_items self.old.heap) least place →
-            Waits (heap_items self.new.heap) least place ⊎ ((least ≡ first.least.0) × (place ≡ first.place))) }
+            OthersWait first (heap_items self.old.heap) (heap_items self.new.heap) }
         ensures aside { self.new.aside.items ≡ self.old.aside.items }
     {
         let _ = self.heap.pop();

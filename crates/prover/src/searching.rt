@@ -211,7 +211,8 @@ fn run_over<R: Threads + Sync, P: Progress>(
     )
 }
 
-// Expands open positions. Makes tables of larger regions the more positions it has found.
+// Expands open positions until that decides the problem, or more than `limit` are found. Makes tables at the stages of
+// `STAGES`.
 fn run_all<R: Threads + Sync, P: Progress>(
     rt: &R,
     alloc: Global,

@@ -1,7 +1,7 @@
 -- What sound regions say is a bound.
 use Rattle.std.proofs.Common.{◌≡◌, ◌+◌, ◌-◌, ◌<◌, ◌≤◌, ℕ, List, [], ◌∷◌, Option, None, Some, inl, inr, get_or, length, refl, subst, arith}
 use Rattle.std.specs.Prelude.{IfNone}
-use Rattle.grid.specs.Board.{Board, Scene}
+use Rattle.grid.specs.Board.{Scene}
 use Rattle.grid.specs.States.{FitsLevel}
 use Rattle.doom.specs.Lost.{IsLost}
 use Rattle.prices.specs.Prices.{AreFar, goals_of, total_need}
@@ -12,10 +12,10 @@ use Rattle.prices.specs.inside.Tables.{far_in, row_in, row_start}
 use Rattle.prices.specs.inside.Views.{DistancesView}
 use Rattle.prices.proofs.lemmas.Prices.{sum_le, tolls_are_free}
 use Rattle.regions.specs.declared.plan.Plan.{Plan}
-use Rattle.regions.specs.Regions.{HasEndless, IsRegion, endless, excess_of}
+use Rattle.regions.specs.Regions.{HasEndless, endless, excess_of}
 use Rattle.regions.specs.inside.Needs.{AreNeeds, least_to, need_in, need_under, toll_in}
 use Rattle.regions.specs.inside.Sound.{AreSound, IsTaken}
-use Rattle.regions.specs.inside.Tables.{said, waste_in}
+use Rattle.regions.specs.inside.Tables.{said}
 use Rattle.regions.specs.inside.Views.{JobView, part_of, parts_of}
 use Rattle.regions.proofs.Tolls.{need_is}
 use Rattle.regions.proofs.lemmas.Excess.{endless_is_lost, excess_is_bound, parts_add_up}
@@ -71,11 +71,6 @@ pub any_lost : (v : DistancesView) (tolls : List ℕ) (ts : List JobView) (s : S
 any_lost v tolls [] s far away sound fits none = elim none [ ]
 any_lost v tolls (t ∷ ts) s far away sound fits (inl le) = first_lost v tolls t ts s far away sound fits le
 any_lost v tolls (t ∷ ts) s far away sound fits (inr later) = any_lost v tolls ts s far away (sound_rest v tolls t ts sound) fits later
-
--- what a job says of its own level it says of an equal one
-pub part_here : (t : JobView) (board : Board) → IsRegion t.board (waste_in t.wastes) (said t.table) → t.board ≡ board
-    → IsRegion board (waste_in t.wastes) (said t.table)
-part_here t board is same = subst (λ (b : Board). IsRegion b (waste_in t.wastes) (said t.table)) same is
 
 -- what holds in any case holds if there is no value
 pub if_none : {A : Type 0} (o : Option A) (P : Type 0) → P → IfNone o P

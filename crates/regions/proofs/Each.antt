@@ -1,12 +1,8 @@
 -- Lists that are taken apart.
-use Rattle.std.proofs.Common.{◌≡◌, ◌-◌, ◌<◌, ◌≤◌, ◌||◌, ℕ, Bool, true, false, eqb, List, [], ◌∷◌, drop, get_or, length, take, refl, sym, subst, ap, ◌∙◌, arith}
+use Rattle.std.proofs.Common.{◌≡◌, ◌-◌, ◌≤◌, ◌||◌, ℕ, Bool, true, false, eqb, List, [], ◌∷◌, drop, get_or, length, take}
+use Rattle.std.proofs.Common.{refl, sym, subst, ap, ◌∙◌, arith}
 use Rattle.std.proofs.lemmas.Bool.{eqb-true}
 use Rattle.grid.specs.Squares.{Squares, contains}
-
--- a list of less than one element has none
-pub none_left : {A : Type 0} (xs : List A) → length xs < 1 → xs ≡ []
-none_left [] lt = refl
-none_left (x ∷ xs) lt = absurd (omega (arith, lt))
 
 -- all elements
 taken_all : {A : Type 0} (xs : List A) → take (length xs) xs ≡ xs
@@ -14,7 +10,8 @@ taken_all [] = refl
 taken_all (x ∷ xs) = ap (λ ys. x ∷ ys) (taken_all xs)
 
 -- a list is its first element and the others
-pub first_and_rest : {A : Type 0} (xs : List A) (x : A) → 1 ≤ length xs → x ≡ get_or xs 0 x → xs ≡ (x ∷ take (length xs - 1) (drop 1 xs))
+pub first_and_rest : {A : Type 0} (xs : List A) (x : A) → 1 ≤ length xs → x ≡ get_or xs 0 x →
+    xs ≡ (x ∷ take (length xs - 1) (drop 1 xs))
 first_and_rest [] x le is = absurd (omega (arith, le))
 first_and_rest (y ∷ ys) x le is =
     ap (λ z. z ∷ ys) (sym is) ∙ ap (λ zs. x ∷ zs) (sym (taken_all ys) ∙ ap (λ n. take n ys) (omega arith))

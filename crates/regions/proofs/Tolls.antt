@@ -84,7 +84,7 @@ need_is v tolls row b p count n goals is counted found =
     found ∙ (all ∙ (sym (least_by_place f greatest 0 gs rises)
     ∙ ap (λ (xs : List ℕ). least_of (λ g. f (place_in gs g)) greatest xs) goals))
 
-pub least_most : (f : ℕ → ℕ) (cap n : ℕ) → least_to f cap n ≤ cap
+least_most : (f : ℕ → ℕ) (cap n : ℕ) → least_to f cap n ≤ cap
 least_most f cap zero = omega arith
 least_most f cap (suc n) = let le = least_most f cap n in omega (arith, le)
 
@@ -109,7 +109,7 @@ near_at v row b p count Found goals is counted found (g, goal, near) =
     (subst (λ (xs : List ℕ). get_or xs (place_in gs g) 0 < NEVER) (sym is) near)
 
 -- a number appended to numbers, each of which is at most a bound for its place
-pub pushed_below : (f : ℕ → ℕ) (xs : List ℕ) (x : ℕ) → ((i : ℕ) → get_or xs i 0 ≤ f i) → x ≤ f (length xs) → (i : ℕ)
+pushed_below : (f : ℕ → ℕ) (xs : List ℕ) (x : ℕ) → ((i : ℕ) → get_or xs i 0 ≤ f i) → x ≤ f (length xs) → (i : ℕ)
     → get_or (xs ++ (x ∷ [])) i 0 ≤ f i
 pushed_below f [] x all le zero = le
 pushed_below f [] x all le (suc i) = omega arith

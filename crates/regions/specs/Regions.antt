@@ -22,7 +22,7 @@ pub record IsExcess (board : Board) (far : ℕ → ℕ → ℕ → ℕ) (need : 
       let q = next board s.player d in let r = next board q d in
       CanCome board far r q → need q s.player + excess s ≤ suc (need r q + excess t)
 
--- then no play with fewer pushes than the boxes need, with the excess, above the tolls of the goals ends solved
+-- no play ends solved with fewer pushes than needs and excess of the boxes together, less the tolls of the goals
 abbrev pub ExcessIsBound : Board → Type 0
 ExcessIsBound board =
     (far : ℕ → ℕ → ℕ → ℕ) (toll : ℕ → ℕ) (need : ℕ → ℕ → ℕ) (excess : Scene → ℕ) → AreFar board far → StayAway board far
@@ -61,17 +61,17 @@ abbrev pub waste_of : List Region → ℕ → Dir → ℕ
 waste_of [] q d = 0
 waste_of (p ∷ ps) q d = p.waste q d + waste_of ps q d
 
--- one of them says that its boxes can never all be brought to goals
+-- one of the regions says that its boxes can never all be brought to goals
 abbrev pub HasEndless : List Region → Scene → Type 0
 HasEndless [] s = ⊥
 HasEndless (p ∷ ps) s = (endless ≤ p.excess s) ⊎ HasEndless ps s
 
--- each is a part
+-- each of them is a region of the level
 abbrev pub AreRegions : Board → List Region → Type 0
 AreRegions board [] = Unit {0}
 AreRegions board (p ∷ ps) = IsRegion board p.waste p.excess × AreRegions board ps
 
--- none of them counts an endless waste for the push
+-- no region counts an endless waste for the push
 abbrev pub AreFinite : List Region → ℕ → Dir → Type 0
 AreFinite [] q d = Unit {0}
 AreFinite (p ∷ ps) q d = (p.waste q d < endless) × AreFinite ps q d
@@ -83,13 +83,13 @@ ArePaid board far need ps = (p : ℕ) (d : Dir) → let q = next board p d in le
     CanStand board q p → CanStand board r q → CanCome board far r q →
     AreFinite ps q d × (need q p + waste_of ps q d ≤ suc (need r q))
 
--- then what the regions say adds up to an excess
+-- the sum of what the regions say is an excess if each push wastes what they count for it
 abbrev pub PartsAddUp : Board → Type 0
 PartsAddUp board =
     (far : ℕ → ℕ → ℕ → ℕ) (need : ℕ → ℕ → ℕ) (ps : List Region) → AreRegions board ps → ArePaid board far need ps
     → IsExcess board far need (excess_of ps)
 
--- and where one of them says that it is endless, no play ends solved
+-- if one region says that its excess is endless, no play ends solved
 abbrev pub EndlessIsLost : Board → Type 0
 EndlessIsLost board =
     (far : ℕ → ℕ → ℕ → ℕ) (need : ℕ → ℕ → ℕ) (p : Region) → AreFar board far → StayAway board far

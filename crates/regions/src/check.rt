@@ -115,8 +115,7 @@ fn sets_pass(
     left: usize,
 ) -> bool
     requires apart { (x : ℕ) → contains rest.now x ≡ true → HasOwnBit look.now.bits.now x }
-    requires listed { AreListed look.now.level.now look.now.table.now look.now.bits.now (waste_in look.now.wastes.now)
-        look.now.seats.now.boxes steps.now }
+    requires listed { AreListed look.now steps.now }
     ensures { IsTrue result → SetsPass look.now.level.now look.now.table.now (waste_in look.now.wastes.now)
         look.now.seats.now.boxes rest.now (box_in look.now.bits.now bits) high low left }
 {
@@ -165,8 +164,7 @@ fn sets_pass(
 
 // Whether a set of boxes passes.
 fn set_passes(look: &Look<'_>, steps: &Steps, set: &BoxSet) -> bool
-    requires { AreListed look.now.level.now look.now.table.now look.now.bits.now (waste_in look.now.wastes.now)
-        look.now.seats.now.boxes steps.now }
+    requires { AreListed look.now steps.now }
     ensures { IsTrue result → SetPasses look.now.level.now look.now.table.now (waste_in look.now.wastes.now)
         look.now.seats.now.boxes (box_in look.now.bits.now set.now.bits) set.now.high set.now.low set.now.left }
 {
@@ -190,10 +188,7 @@ fn home_passes(look: &Look<'_>, set: u64, row: usize) -> bool
         box_in look.now.bits.now set q ≡ is_goal look.now.level.now q) → (p : ℕ) →
         p < length look.now.level.now.cells → byte_for look.now.table.now row p ≡ 0 }
 {
-    if !is_home(look, look.seats.boxes(), set) {
-        return true;
-    }
-    is_nothing(look, row)
+    !is_home(look, look.seats.boxes(), set) || is_nothing(look, row)
 }
 
 // Whether the seats with goals are those with boxes.
@@ -206,10 +201,7 @@ fn is_home(look: &Look<'_>, seats: &[Square], set: u64) -> bool
     };
     let boxed = has_box(look.bits, set, *first);
     let goal = look.level.is_goal(*first);
-    if boxed == goal {
-        return is_home(look, rest, set);
-    }
-    false
+    boxed == goal && is_home(look, rest, set)
 }
 
 // Whether the row says 0, wherever the player is.

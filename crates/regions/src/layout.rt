@@ -78,7 +78,7 @@ pub(crate) fn layout_of(alloc: Global, site: &Site<'_>) -> Result<Layout, AllocE
     Ok(layout)
 }
 
-/// The key of each square of the level, with so many seats in the low half.
+/// The key of each square of the level, with this number of seats in the low half.
 pub(crate) fn keys_of(
     alloc: Global,
     layout: &Layout,

@@ -5,7 +5,7 @@ ghost use Rattle.std.specs.Int.RustNames.{bit_and};
 ghost use Rattle.grid.specs.declared.dir.Dir.{Dir};
 ghost use Rattle.grid.specs.Squares.{contains};
 ghost use Rattle.regions.specs.Regions.{endless};
-ghost use Rattle.regions.specs.inside.Listing.{AreListed, EntryListed, HasPush, HasWalk, HasOwnBit, PushListed};
+ghost use Rattle.regions.specs.inside.Listing.{AreListed, EntryListed, Has, HasOwnBit, PushListed};
 ghost use Rattle.regions.specs.inside.Listing.{SeatListed, WalkListed, WalksListed, bit_of, box_in, push_in, walk_in};
 ghost use Rattle.regions.specs.inside.Tables.{waste_in};
 
@@ -148,7 +148,7 @@ pub(crate) fn has_box(bits: &[u64], set: u64, square: Square) -> bool
 
 // The step of the player between two squares.
 fn walk_of(look: &Look<'_>, square: Square, to: Square) -> WalkStep
-    ensures { result ≡ walk_in look.now.table.now look.now.bits.now square to }
+    ensures { result ≡ walk_in look.now square to }
 {
     WalkStep {
         from: look.table.place(square),
@@ -159,8 +159,7 @@ fn walk_of(look: &Look<'_>, square: Square, to: Square) -> WalkStep
 
 // The push of a box on a square to the next.
 fn push_of(look: &Look<'_>, player: Square, square: Square, to: Square, dir: Dir) -> PushStep
-    ensures { result ≡
-        push_in look.now.table.now look.now.bits.now (waste_in look.now.wastes.now) player square to dir }
+    ensures { result ≡ push_in look.now player square to dir }
 {
     PushStep {
         player: look.table.place(player),
@@ -175,8 +174,7 @@ fn push_of(look: &Look<'_>, player: Square, square: Square, to: Square, dir: Dir
 
 /// Whether all steps are listed.
 pub(crate) fn are_listed(look: &Look<'_>, steps: &Steps) -> bool
-    ensures { IsTrue result → AreListed look.now.level.now look.now.table.now look.now.bits.now
-        (waste_in look.now.wastes.now) look.now.seats.now.boxes steps.now }
+    ensures { IsTrue result → AreListed look.now steps.now }
 {
     let walks = are_walks_listed(look, steps.walks.as_slice(), look.table.squares.as_slice());
     let seats = are_seats_listed(look, steps, look.seats.boxes());
@@ -186,21 +184,17 @@ pub(crate) fn are_listed(look: &Look<'_>, steps: &Steps) -> bool
 // Whether each step of the player from these squares is listed.
 fn are_walks_listed(look: &Look<'_>, walks: &[WalkStep], squares: &[Square]) -> bool
     ensures { IsTrue result → (z : ℕ) → contains squares.now z ≡ true → (d : Dir) →
-        WalksListed look.now.level.now look.now.table.now look.now.bits.now walks.now z d }
+        WalksListed look.now walks.now z d }
 {
     let [first, rest @ ..] = squares else {
         return true;
     };
-    if !are_walks_listed_from(look, walks, *first) {
-        return false;
-    }
-    are_walks_listed(look, walks, rest)
+    are_walks_listed_from(look, walks, *first) && are_walks_listed(look, walks, rest)
 }
 
 // Whether each step of the player from the square is listed.
 fn are_walks_listed_from(look: &Look<'_>, walks: &[WalkStep], square: Square) -> bool
-    ensures { IsTrue result → (d : Dir) →
-        WalksListed look.now.level.now look.now.table.now look.now.bits.now walks.now square d }
+    ensures { IsTrue result → (d : Dir) → WalksListed look.now walks.now square d }
 {
     if look.level.is_wall(square) {
         return true;
@@ -215,29 +209,22 @@ fn are_walks_listed_from(look: &Look<'_>, walks: &[WalkStep], square: Square) ->
 // Whether the step of the player from the square in a direction is listed.
 fn is_walk_listed_to(look: &Look<'_>, walks: &[WalkStep], square: Square, dir: Dir) -> bool
     requires { square < length look.now.level.now.cells }
-    ensures { IsTrue result →
-        WalksListed look.now.level.now look.now.table.now look.now.bits.now walks.now square dir }
+    ensures { IsTrue result → WalksListed look.now walks.now square dir }
 {
     let to = look.level.next(square, dir);
-    if look.level.is_wall(to) {
-        return true;
-    }
-    is_walk_listed(look, walks, square, to)
+    look.level.is_wall(to) || is_walk_listed(look, walks, square, to)
 }
 
 // Whether the step of the player between two squares, or the step back, is listed.
 fn is_walk_listed(look: &Look<'_>, walks: &[WalkStep], square: Square, to: Square) -> bool
-    ensures { IsTrue result → WalkListed look.now.table.now look.now.bits.now walks.now square to }
+    ensures { IsTrue result → WalkListed look.now walks.now square to }
 {
-    if has_walk(walks, &walk_of(look, square, to)) {
-        return true;
-    }
-    has_walk(walks, &walk_of(look, to, square))
+    has_walk(walks, &walk_of(look, square, to)) || has_walk(walks, &walk_of(look, to, square))
 }
 
 // Whether the step is in the list.
 fn has_walk(walks: &[WalkStep], wanted: &WalkStep) -> bool
-    ensures { IsTrue result → HasWalk walks.now wanted.now }
+    ensures { IsTrue result → Has walks.now wanted.now }
 {
     for walk in walks {
         if *walk == *wanted {
@@ -249,24 +236,17 @@ fn has_walk(walks: &[WalkStep], wanted: &WalkStep) -> bool
 
 // Whether the pushes from these seats, and to them, are listed.
 fn are_seats_listed(look: &Look<'_>, steps: &Steps, seats: &[Square]) -> bool
-    ensures { IsTrue result → (q : ℕ) → contains seats.now q ≡ true → (d : Dir) →
-        SeatListed look.now.level.now look.now.table.now look.now.bits.now (waste_in look.now.wastes.now)
-        steps.now q d }
+    ensures { IsTrue result → (q : ℕ) → contains seats.now q ≡ true → (d : Dir) → SeatListed look.now steps.now q d }
 {
     let [first, rest @ ..] = seats else {
         return true;
     };
-    if !is_seat_listed(look, steps, *first) {
-        return false;
-    }
-    are_seats_listed(look, steps, rest)
+    is_seat_listed(look, steps, *first) && are_seats_listed(look, steps, rest)
 }
 
 // Whether the pushes from a seat, and to it, are listed.
 fn is_seat_listed(look: &Look<'_>, steps: &Steps, seat: Square) -> bool
-    ensures { IsTrue result → (d : Dir) →
-        SeatListed look.now.level.now look.now.table.now look.now.bits.now (waste_in look.now.wastes.now)
-        steps.now seat d }
+    ensures { IsTrue result → (d : Dir) → SeatListed look.now steps.now seat d }
 {
     if look.level.is_wall(seat) {
         return false;
@@ -281,9 +261,7 @@ fn is_seat_listed(look: &Look<'_>, steps: &Steps, seat: Square) -> bool
 // Whether the push from a seat in a direction, and that to it, is listed.
 fn is_seat_listed_to(look: &Look<'_>, steps: &Steps, seat: Square, dir: Dir) -> bool
     requires { seat < length look.now.level.now.cells }
-    ensures { IsTrue result →
-        SeatListed look.now.level.now look.now.table.now look.now.bits.now (waste_in look.now.wastes.now)
-        steps.now seat dir }
+    ensures { IsTrue result → SeatListed look.now steps.now seat dir }
 {
     let from = is_push_listed(look, steps.pushes.as_slice(), seat, dir);
     let to = is_entry_listed(look, steps.entries.as_slice(), seat, dir);
@@ -293,27 +271,19 @@ fn is_seat_listed_to(look: &Look<'_>, steps: &Steps, seat: Square, dir: Dir) -> 
 // Whether the push of a box on the square is listed.
 fn is_push_listed(look: &Look<'_>, pushes: &[PushStep], square: Square, dir: Dir) -> bool
     requires { square < length look.now.level.now.cells }
-    ensures { IsTrue result →
-        PushListed look.now.level.now look.now.table.now look.now.bits.now (waste_in look.now.wastes.now)
-        pushes.now square dir }
+    ensures { IsTrue result → PushListed look.now pushes.now square dir }
 {
     let player = look.level.next(square, dir.opposite());
-    if look.level.is_wall(player) {
-        return true;
-    }
     let to = look.level.next(square, dir);
-    if look.level.is_wall(to) {
-        return true;
-    }
-    is_listed(look, pushes, player, square, to, dir)
+    look.level.is_wall(player)
+        || look.level.is_wall(to)
+        || is_listed(look, pushes, player, square, to, dir)
 }
 
 // Whether the push to the square of a box that is not seen is listed.
 fn is_entry_listed(look: &Look<'_>, entries: &[PushStep], to: Square, dir: Dir) -> bool
     requires { to < length look.now.level.now.cells }
-    ensures { IsTrue result →
-        EntryListed look.now.level.now look.now.table.now look.now.bits.now (waste_in look.now.wastes.now)
-        entries.now to dir }
+    ensures { IsTrue result → EntryListed look.now entries.now to dir }
 {
     let square = look.level.next(to, dir.opposite());
     if look.level.is_wall(square) {
@@ -323,10 +293,7 @@ fn is_entry_listed(look: &Look<'_>, entries: &[PushStep], to: Square, dir: Dir) 
         return true;
     }
     let player = look.level.next(square, dir.opposite());
-    if look.level.is_wall(player) {
-        return true;
-    }
-    is_listed(look, entries, player, square, to, dir)
+    look.level.is_wall(player) || is_listed(look, entries, player, square, to, dir)
 }
 
 // Whether the push is in the list, or its box can come to no goal afterwards.
@@ -338,19 +305,16 @@ fn is_listed(
     to: Square,
     dir: Dir,
 ) -> bool
-    ensures { IsTrue result → waste_in look.now.wastes.now square dir < endless → HasPush pushes.now
-        (push_in look.now.table.now look.now.bits.now (waste_in look.now.wastes.now) player square to dir) }
+    ensures { IsTrue result → waste_in look.now.wastes.now square dir < endless →
+        Has pushes.now (push_in look.now player square to dir) }
 {
     let waste = waste_at(look.wastes, square, dir);
-    if waste == ENDLESS {
-        return true;
-    }
-    has_push(pushes, &push_of(look, player, square, to, dir))
+    waste == ENDLESS || has_push(pushes, &push_of(look, player, square, to, dir))
 }
 
 // Whether the push is in the list.
 fn has_push(pushes: &[PushStep], wanted: &PushStep) -> bool
-    ensures { IsTrue result → HasPush pushes.now wanted.now }
+    ensures { IsTrue result → Has pushes.now wanted.now }
 {
     for push in pushes {
         if *push == *wanted {
@@ -367,10 +331,7 @@ pub(crate) fn are_apart(bits: &[u64], seats: &[Square]) -> bool
     let [first, rest @ ..] = seats else {
         return true;
     };
-    if !is_apart(bits, *first) {
-        return false;
-    }
-    are_apart(bits, rest)
+    is_apart(bits, *first) && are_apart(bits, rest)
 }
 
 // Whether no other square has a bit of the seat.
@@ -389,10 +350,7 @@ fn is_apart(bits: &[u64], seat: Square) -> bool
 fn are_disjoint(bits: &[u64], seat: Square, index: usize) -> bool
     ensures { IsTrue result → seat ≢ index → bit_and (bit_of bits.now seat) (bit_of bits.now index) ≡ 0 }
 {
-    if seat.0 as usize == index {
-        return true;
-    }
-    bit_of(bits, seat) & bit_at(bits, index) == 0
+    seat.0 as usize == index || bit_of(bits, seat) & bit_at(bits, index) == 0
 }
 
 // The bit at an index; 0 if there is none.
@@ -400,8 +358,5 @@ fn are_disjoint(bits: &[u64], seat: Square, index: usize) -> bool
 fn bit_at(bits: &[u64], at: usize) -> u64
     ensures { result ≡ bit_of bits.now at }
 {
-    match bits.get(at) {
-        Some(bit) => *bit,
-        None => 0,
-    }
+    bits.get(at).copied().unwrap_or(0)
 }

@@ -71,7 +71,7 @@ pub(crate) fn needs_of(
     Ok(needs)
 }
 
-// What a lone box needs whose first distance has this index, or less.
+// At most the need of a lone box whose first distance has this index.
 fn need_from(distances: &Distances, tolls: &[u32], start: usize) -> u32
     ensures { result ≤ need_from distances.now tolls.now start }
 {

@@ -94,8 +94,8 @@ impl Regions {
         Ok(())
     }
 
-    /// Takes the tables of a plan that passed their check, beside those of [`Regions::take`] and of the last plan that
-    /// this took. A plan of another level, or one whose regions count more for a push than it wastes, changes nothing.
+    /// Adds the tables of a plan that passed their check. Those of [`Regions::take`] and of the last call stay, older
+    /// ones go. A plan of another level, or one whose regions count more for a push than it wastes, changes nothing.
     /// Fails only if out of memory, and then changes nothing.
     pub fn take_later(&mut self, alloc: Global, level: &Level, plan: Plan) -> Result<(), AllocError>
         requires { level.now ≡ self.old }

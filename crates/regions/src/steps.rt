@@ -39,10 +39,7 @@ fn walk_keeps(table: &RegionTable, walk: &WalkStep, bits: u64, row: usize) -> bo
     requires { row ≤ 8589934590 }
     ensures { IsTrue result → WalkKeeps table.now bits row walk.now }
 {
-    if bits & walk.seats != 0 {
-        return true;
-    }
-    table.byte(row, walk.from) == table.byte(row, walk.to)
+    bits & walk.seats != 0 || table.byte(row, walk.from) == table.byte(row, walk.to)
 }
 
 /// Whether what is left after each of the pushes of boxes of the set pays for what was before it.
@@ -91,10 +88,7 @@ fn seat_pays(table: &RegionTable, push: &PushStep, set: &BoxSet, row: usize) -> 
     ensures { IsTrue result → bit_and set.now.bits push.now.seat ≢ 0 →
         PaysFor table.now set.now.bits set.now.high set.now.low push.now }
 {
-    if set.bits & push.seat == 0 {
-        return true;
-    }
-    pays(table, push, set, row)
+    set.bits & push.seat == 0 || pays(table, push, set, row)
 }
 
 // Whether a push pays, or a box is in the way.

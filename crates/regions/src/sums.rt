@@ -36,10 +36,7 @@ fn are_of(jobs: &[Job], level: &Level) -> bool
         return true;
     };
     first.tell();
-    if !first.is_of(level) {
-        return false;
-    }
-    are_of(rest, level)
+    first.is_of(level) && are_of(rest, level)
 }
 
 // Whether each push wastes what all regions count for it.

@@ -119,7 +119,7 @@ impl RegionTable {
     }
 }
 
-/// The waste of a push of a box on the square, by four for each square.
+/// The waste of a push of a box on the square, from a list with four numbers for each square.
 #[inline(always)]
 pub(crate) fn waste_at(wastes: &[u8], square: Square, dir: Dir) -> u8
     ensures { result ≡ waste_in wastes.now square dir }

@@ -159,7 +159,7 @@ fn search_once(
     let less = if form.aim == Aim::FewerPushes { 2 } else { 0 };
     let most = push_count(moves).saturating_sub(less);
     if most > form.states {
-        return Ok(Find::none());
+        return Ok(Find::default());
     }
     finder.bounds.set_most(u32::try_from(most).unwrap_or(0));
     let trail = Trail::of(alloc, level, &finder.start, moves)?;

@@ -28,7 +28,7 @@ use successors::Problem;
 const DISPLACED_MOVES: u32 = 10;
 
 /// The rank of a state rises by this much with each box that is elsewhere and with each push that is left, if pushes
-/// are counted: more than the moves of two states with as many pushes mostly differ by.
+/// are counted: usually more than the difference between the moves of two states with equal pushes.
 const RANK_PUSHES: u32 = 1_000;
 
 /// More than the moves of any solution.
@@ -48,22 +48,11 @@ pub(crate) struct Form {
 
 /// How a search ended: with the pushes of a solution, or without; the number of listed states; and whether the width
 /// kept it from expanding some of them.
-#[derive(Drop)]
+#[derive(Default, Drop)]
 pub(crate) struct Find {
     pub(crate) pushes: Option<Vec<Push>>,
     pub(crate) listed: usize,
     pub(crate) is_cut: bool,
-}
-
-impl Find {
-    /// Nothing was searched.
-    pub(crate) fn none() -> Find {
-        Find {
-            pushes: None,
-            listed: 0,
-            is_cut: false,
-        }
-    }
 }
 
 /// Memory to expand states.
@@ -116,6 +105,7 @@ pub(crate) fn search_near(
     let _ = listed.enter(start, label_of(0, 0, None))?;
     let mut vicinity = Vicinity::of(alloc, level, trail)?;
     let mut ranked = vec![in alloc; (0, 0); 1]?;
+    let mut found = None;
     let mut is_cut = false;
     for pushes in 1..=most {
         vicinity.go_to(trail, pushes as usize);
@@ -129,13 +119,8 @@ pub(crate) fn search_near(
         };
         expand_all(bounds, &layer, ranked.as_slice(), &mut listed, memory)?;
         if let Some(place) = solved_since(level, &listed, begin) {
-            let pushes = Some(pushes_to(alloc, &listed, place)?);
-            let listed = listed.len();
-            return Ok(Find {
-                pushes,
-                listed,
-                is_cut,
-            });
+            found = Some(pushes_to(alloc, &listed, place)?);
+            break;
         }
         if listed.len() == begin || listed.len() >= form.states {
             break;
@@ -145,7 +130,7 @@ pub(crate) fn search_near(
         ranked.truncate(form.width);
     }
     Ok(Find {
-        pushes: None,
+        pushes: found,
         listed: listed.len(),
         is_cut,
     })
@@ -321,12 +306,9 @@ fn enter_since(
     requires { FitsGrid listed.old.boxes listed.old.squares state.now }
     ensures { (listed.new.boxes ≡ listed.old.boxes) × (listed.new.squares ≡ listed.old.squares) }
 {
-    if let Some(known) = listed.find(state) {
-        if known < begin {
-            return Ok(());
-        }
+    if listed.find(state).unwrap_or(begin) >= begin {
+        let _ = listed.enter(state, label)?;
     }
-    let _ = listed.enter(state, label)?;
     Ok(())
 }
 
@@ -339,7 +321,7 @@ fn label_of(moves: u32, rank: u32, parent: Option<Parent>) -> Label {
     }
 }
 
-// What the rank of a state has beside its moves: the less, the better.
+// The part of a state's rank beside its moves. Lower ranks are better.
 fn rank_of(
     bounds: &Bounds<'_>,
     aim: Aim,
@@ -379,7 +361,7 @@ fn solved_since(level: &Level, listed: &Visited, begin: usize) -> Option<usize> 
     best
 }
 
-// The states of a layer by rising rank, with their places. That of the solution comes first.
+// The ranks and places of the states of a layer, by rising rank. The state of the solution comes first.
 fn ranks_since(
     alloc: Global,
     trail: &Trail,

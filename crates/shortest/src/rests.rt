@@ -31,7 +31,7 @@ pub(crate) fn rests_of(
     Ok(rests)
 }
 
-// This many times `None`.
+// A list of `count` times `None`.
 fn unknown(alloc: Global, count: usize) -> Result<Vec<Option<u64>>, AllocError>
     ensures { IfOk result (λ rests. length rests.items ≡ count) }
 {

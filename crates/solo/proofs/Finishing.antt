@@ -1,5 +1,5 @@
 -- The ranks of a layer that are left, done one by one.
-use Rattle.std.proofs.Common.{◌≡◌, ℕ, ◌-◌, ◌<◌, Bool, true, false, length, count_by, get_or, set, Some, None, inl, inr, refl}
+use Rattle.std.proofs.Common.{◌≡◌, ℕ, ◌-◌, ◌<◌, Bool, true, false, length, count_by, get_or, set, Some, inl, inr, refl}
 use Rattle.std.proofs.Common.{sym, ap, subst, ◌∙◌, arith}
 use Rattle.std.specs.Prelude.{slice_get}
 use Rattle.std.proofs.lemmas.Bool.{false≢true}
@@ -15,12 +15,13 @@ use Rattle.layers.specs.declared.fault.CloseFault.TheVariants.{NotAll}
 use Rattle.layers.specs.Events.{AreMadeAlike}
 use Rattle.layers.proofs.lemmas.Books.{begun_ranks, true_cases, true_kept}
 use Rattle.successors.proofs.lemmas.Lists.{count-set_true}
-use Rattle.solo.specs.inside.Iterations.{IsOnlyClaimed, IsOfRank, IsStillAt, with_over}
+use Rattle.solo.specs.inside.Iterations.{IsOnlyClaimed, IsOfRank, IsStillAt}
 
 -- ---- ranks
 
 -- a book that has begun a whole layer is at work on it, and where it was opened again all that is claimed is done
-pub still_at : (book reopened : BookView) (layer : LayerView) → IsLawfulBook book → IsWhole layer → HasBegun book layer → reopened ≡ with_reopened book →
+pub still_at : (book reopened : BookView) (layer : LayerView) → IsLawfulBook book → IsWhole layer →
+    HasBegun book layer → reopened ≡ with_reopened book →
     IsStillAt reopened layer reopened × (reopened.claimed ≡ reopened.done)
 still_at book reopened layer lawful whole begun is =
     subst (λ v. IsStillAt v layer v × (v.claimed ≡ v.done)) (sym is) (
@@ -33,31 +34,28 @@ still_at book reopened layer lawful whole begun is =
       refl,
     )
 
--- where nothing more can be claimed, and what is claimed is done, all ranks are done
-pub all_done : (book after : BookView) (layer : LayerView) → HasBegun book layer → ((r : ℕ) → get_or book.claimed r false ≡ true → IsDone book r) →
-    ClaimAnswer book None after → AllDone after
-all_done book after layer begun done (taken, same) = subst AllDone (sym same) (begun.2, λ r lt. elim (taken r lt) [ inl claimed ↦ done r claimed | inr d ↦ d ])
-
 -- the rank that is claimed next is due
-pub due_next : (start book after : BookView) (layer : LayerView) (parcel : ParcelView) (claim : Claim) → IsStillAt start layer book →
-    ((r : ℕ) → get_or book.claimed r false ≡ true → IsDone book r) → ClaimAnswer book (Some claim) after → IsOfRank layer claim.rank parcel →
-    IsOnlyClaimed start layer after parcel
+pub due_next : (start book after : BookView) (layer : LayerView) (parcel : ParcelView) (claim : Claim) →
+    IsStillAt start layer book → ((r : ℕ) → get_or book.claimed r false ≡ true → IsDone book r) →
+    ClaimAnswer book (Some claim) after → IsOfRank layer claim.rank parcel → IsOnlyClaimed start layer after parcel
 due_next start book after layer parcel claim still done (number, free, before, is) (level, of, rank) =
     subst (λ v. IsOnlyClaimed start layer v parcel) (sym is) (record {
       still = record { alike = still.alike; closed = still.closed; begun = still.begun; ranks = still.ranks };
       of = (level, of, refl);
       free = ap (slice_get book.done) rank ∙ free.1;
-      others = λ r e. elim (true_cases book.claimed claim.rank r e) [ inl same ↦ inr (same ∙ sym rank) | inr old ↦ inl (done r old) ];
+      others =
+          λ r e. elim (true_cases book.claimed claim.rank r e) [ inl same ↦ inr (same ∙ sym rank) | inr old ↦ inl (done r old) ];
     })
 
 -- a rank that is due is one of the layer at work
-pub due_work : (start book : BookView) (layer : LayerView) (parcel : ParcelView) → IsOnlyClaimed start layer book parcel → IsAtWork book parcel
+pub due_work : (start book : BookView) (layer : LayerView) (parcel : ParcelView) →
+    IsOnlyClaimed start layer book parcel → IsAtWork book parcel
 due_work start book layer parcel due =
     (due.of.0 ∙ due.still.begun.0, due.of.1 ∙ due.still.begun.1, slice_get_within book.done parcel.rank false due.free)
 
 -- once it was handed back, the book is still at work on the layer
-pub done_still : (start book after : BookView) (layer : LayerView) (parcel : ParcelView) (worker : ℕ) → IsOnlyClaimed start layer book parcel →
-    after ≡ with_parcel book worker parcel → IsStillAt start layer after
+pub done_still : (start book after : BookView) (layer : LayerView) (parcel : ParcelView) (worker : ℕ) →
+    IsOnlyClaimed start layer book parcel → after ≡ with_parcel book worker parcel → IsStillAt start layer after
 done_still start book after layer parcel worker due is =
     let still = due.still in
     subst (λ v. IsStillAt start layer v) (sym is) (record {
@@ -68,8 +66,9 @@ done_still start book after layer parcel worker due is =
     })
 
 -- and all that is claimed is done
-pub done_claimed : (start book after : BookView) (layer : LayerView) (parcel : ParcelView) (worker : ℕ) → IsOnlyClaimed start layer book parcel →
-    after ≡ with_parcel book worker parcel → (r : ℕ) → get_or after.claimed r false ≡ true → IsDone after r
+pub done_claimed : (start book after : BookView) (layer : LayerView) (parcel : ParcelView) (worker : ℕ) →
+    IsOnlyClaimed start layer book parcel → after ≡ with_parcel book worker parcel → (r : ℕ) →
+    get_or after.claimed r false ≡ true → IsDone after r
 done_claimed start book after layer parcel worker due is =
     subst (λ v. (r : ℕ) → get_or v.claimed r false ≡ true → IsDone v r) (sym is)
     (λ r e. elim (due.others r e) [
@@ -78,17 +77,10 @@ done_claimed start book after layer parcel worker due is =
           (get_or-set_same book.done parcel.rank true false (slice_get_within book.done parcel.rank false due.free))
     ])
 
--- where its limit was passed the book is still at work on the layer
-pub over_still : (start book after : BookView) (layer : LayerView) (parcel : ParcelView) → IsOnlyClaimed start layer book parcel → after ≡ with_over book →
-    IsStillAt start layer after
-over_still start book after layer parcel due is =
-    let still = due.still in
-    subst (λ v. IsStillAt start layer v) (sym is) (record { alike = still.alike; closed = still.closed; begun = still.begun; ranks = still.ranks })
-
 -- one rank less is left to do
-pub fewer_left : (start book after next : BookView) (layer : LayerView) (parcel : ParcelView) (worker : ℕ) → IsOnlyClaimed start layer book parcel →
-    after ≡ with_parcel book worker parcel → next.done ≡ after.done → length layer.places - count_by (λ b. b) next.done < length layer.places - count_by
-    (λ b. b) book.done
+pub fewer_left : (start book after next : BookView) (layer : LayerView) (parcel : ParcelView) (worker : ℕ) →
+    IsOnlyClaimed start layer book parcel → after ≡ with_parcel book worker parcel → next.done ≡ after.done →
+    length layer.places - count_by (λ b. b) next.done < length layer.places - count_by (λ b. b) book.done
 fewer_left start book after next layer parcel worker due is same =
     let done : next.done ≡ set book.done parcel.rank true = same ∙ ap (λ v. v.done) is in
     omega (
@@ -109,8 +101,8 @@ opened_alike : (book reopened : BookView) → reopened ≡ with_reopened book �
 opened_alike book reopened is = subst (AreMadeAlike book) (sym is) (refl, refl, refl, refl, refl)
 
 -- still at work on the layer
-pub still_since : (book reopened after : BookView) (layer : LayerView) → reopened ≡ with_reopened book → IsStillAt reopened layer after →
-    IsStillAt book layer after
+pub still_since : (book reopened after : BookView) (layer : LayerView) → reopened ≡ with_reopened book →
+    IsStillAt reopened layer after → IsStillAt book layer after
 still_since book reopened after layer is still = record {
   alike = more_alike book reopened after (opened_alike book reopened is) still.alike;
   closed = still.closed ∙ ap (λ v. v.closed) is;

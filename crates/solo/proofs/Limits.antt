@@ -18,15 +18,17 @@ use Rattle.solo.proofs.Solving.{layer_distance}
 use Rattle.solo.proofs.Uniqueness.{solved_passes, unsolvable_passes}
 
 -- the limit is passed by the positions of the first layers and of the next one, where no solution has fewer pushes
-passed_by : (problem : Problem) → IsLevel problem.board → (limit pushes : ℕ) (layers : List (List Scene)) → AreLayersOf problem layers → length layers ≡ suc pushes →
-    limit < total layers → ((ds : List Dir) (ps : List Push) → IsSolutionOf problem ds ps → pushes ≤ length ps) → PassesLimit problem limit
+passed_by : (problem : Problem) → IsLevel problem.board → (limit pushes : ℕ) (layers : List (List Scene)) →
+    AreLayersOf problem layers → length layers ≡ suc pushes → limit < total layers →
+    ((ds : List Dir) (ps : List Push) → IsSolutionOf problem ds ps → pushes ≤ length ps) → PassesLimit problem limit
 passed_by problem level limit pushes layers are long passed unsolved = record {
   layers = take pushes layers;
   are = λ j xs at. are j xs (take_at layers pushes j xs at).0;
   more = last;
   distinct = place_unique (level_laws problem level) pushes last layer;
   next = λ n i. subst (λ k. IsAtDistance problem n k) (sym short) (layer_distance problem level pushes last layer n i);
-  passed = omega (arith, passed, total-take_more layers pushes (omega (arith, long)), ap total (take_short layers (suc pushes) (omega (arith, long))));
+  passed =
+      omega (arith, passed, total-take_more layers pushes (omega (arith, long)), ap total (take_short layers (suc pushes) (omega (arith, long))));
   unsolved = λ ds ps solution. omega (arith, short, unsolved ds ps solution);
 }
   where
@@ -40,16 +42,16 @@ passed_by problem level limit pushes layers are long passed unsolved = record {
     short = length-take-le pushes layers (omega (arith, long))
 
 -- a level that is solved
-pub limit_solved : (problem : Problem) (limit pushes positions : ℕ) → IsLevel problem.board → IsFewest problem pushes → HaveTotal problem (suc pushes) positions →
-    PassesLimit problem limit ↔ (limit < positions)
+pub limit_solved : (problem : Problem) (limit pushes positions : ℕ) → IsLevel problem.board → IsFewest problem pushes →
+    HaveTotal problem (suc pushes) positions → PassesLimit problem limit ↔ (limit < positions)
 limit_solved problem limit pushes positions level (some, fewest) have = (
   λ p. solved_passes problem level limit pushes positions some.0 some.1 some.2 some.3 have p,
   λ passed. passed_by problem level limit pushes have.0 have.1 have.2 (omega (arith, passed, have.3)) fewest,
 )
 
 -- a level that is not
-pub limit_unsolvable : (problem : Problem) (limit positions : ℕ) → IsLevel problem.board → HasNoneWithin problem → HasInAll problem positions →
-    PassesLimit problem limit ↔ (limit < positions)
+pub limit_unsolvable : (problem : Problem) (limit positions : ℕ) → IsLevel problem.board → HasNoneWithin problem →
+    HasInAll problem positions → PassesLimit problem limit ↔ (limit < positions)
 limit_unsolvable problem limit positions level none all = (
   λ p. unsolvable_passes problem level limit positions all p,
   λ passed. passed_by problem level limit (length all.layers - 1) all.layers all.are

@@ -27,8 +27,8 @@ pub fn an_answer_is_the_only_one()
 /// The answer is `Limit` exactly if more positions than the limit are needed. A solvable level needs those of the
 /// layers up to the fewest pushes of a solution, an unsolvable one those of all layers.
 pub fn the_limit_is_passed_by_the_positions_needed()
-    ensures solved { (problem : Problem) (limit pushes positions : ℕ) → IsLevel problem.board → IsFewest problem pushes →
-        HaveTotal problem (suc pushes) positions →
+    ensures solved { (problem : Problem) (limit pushes positions : ℕ) → IsLevel problem.board →
+        IsFewest problem pushes → HaveTotal problem (suc pushes) positions →
         IsAnswer problem limit Limit ↔ (limit < positions) }
     ensures unsolvable { (problem : Problem) (limit positions : ℕ) → IsLevel problem.board → HasNoneWithin problem →
         HasInAll problem positions →
@@ -37,8 +37,8 @@ pub fn the_limit_is_passed_by_the_positions_needed()
 
 /// All layers after an empty layer are empty.
 pub fn an_empty_layer_is_the_last()
-    ensures { (problem : Problem) (empty later : ℕ) (places : List Scene) → IsLevel problem.board → IsLayerOf problem empty [] →
-        empty ≤ later →
+    ensures { (problem : Problem) (empty later : ℕ) (places : List Scene) → IsLevel problem.board →
+        IsLayerOf problem empty [] → empty ≤ later →
         IsLayerOf problem later places → places ≡ [] }
 {}
 

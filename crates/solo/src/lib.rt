@@ -1,7 +1,8 @@
 //! The search for the least solution of a level on one thread ([`solve_alone`]), its state for solvers with workers
 //! ([`Search`]), and the play that leads to a position ([`moves_to`]).
 //!
-//! Time and memory grow with the positions: some 50 to 150 bytes and 1 to 5 microseconds each.
+//! Time and memory grow with the positions: each takes some 50 to 150 bytes, with more than 11 boxes up to 370, and 1
+//! to 5 microseconds, in the largest rooms up to 50.
 //!
 //! With the `level` of a room of three rows of three squares, the box in the middle, its goal at the top left and the
 //! player at the bottom right:

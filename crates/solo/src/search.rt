@@ -121,7 +121,8 @@ impl<'p> Search<'p> {
     /// the layer has a solved position. It is `Unsolvable`, or `NoneWithin` under a cap, if the layer is empty.
     pub fn look(&mut self, layer: &Layer) -> Result<Option<Answer>, AllocError>
         requires next { IsNextLayer self.old layer.now }
-        ensures answer { IfOk result (λ found. IfSome found (λ answer. IsAnswer self.old.problem self.old.limit answer)) }
+        ensures answer { IfOk result
+            (λ found. IfSome found (λ answer. IsAnswer self.old.problem self.old.limit answer)) }
         ensures onward { IfOk result (λ found. IfNone found (IsExamined self.old layer.now)) }
         ensures limit { IfOk result
             (λ found. (found ≡ Some Limit) ↔ (self.old.limit < self.old.positions + length layer.now.places)) }

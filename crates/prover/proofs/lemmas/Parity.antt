@@ -103,7 +103,7 @@ back_beside : (board : Board) (q r : ℕ) (d : Dir) → next board r d ≡ q →
     Beside (row_and_column board q) (row_and_column board r)
 back_beside board q r d e beside = turned (subst (λ (x : ℕ). Beside (row_and_column board r) (row_and_column board x)) e beside)
 
-pub next_beside : (board : Board) (q : ℕ) (d : Dir) → 1 ≤ board.cols → is_wall board q ≡ false → is_wall board (next board q d) ≡ false →
+next_beside : (board : Board) (q : ℕ) (d : Dir) → 1 ≤ board.cols → is_wall board q ≡ false → is_wall board (next board q d) ≡ false →
     Beside (row_and_column board q) (row_and_column board (next board q d))
 next_beside board q D some here ahead = down_beside board q some ahead
 next_beside board q R some here ahead = right_beside board q some ahead

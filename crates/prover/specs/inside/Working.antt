@@ -28,6 +28,15 @@ use Rattle.prover.specs.Frontier.{IsSearchUnderWay}
 abbrev pub Waits : List Ticket → ℕ → ℕ → Type 0
 Waits tickets least place = (t : Ticket) × Contains tickets t × (t.least.0 ≡ least) × (t.place ≡ place)
 
+-- all that wait still wait
+abbrev pub StillWait : List Ticket → List Ticket → Type 0
+StillWait old new = (least place : ℕ) → Waits old least place → Waits new least place
+
+-- all but the ticket do
+abbrev pub OthersWait : Ticket → List Ticket → List Ticket → Type 0
+OthersWait t old new =
+    (least place : ℕ) → Waits old least place → Waits new least place ⊎ ((least ≡ t.least.0) × (place ≡ t.place))
+
 -- the ticket is the first, and none that waits has a lesser total
 pub record IsFirstTicket (tickets : List Ticket) (t : Ticket) : Type 0 where
   pub at : slice_get tickets 0 ≡ Some t
@@ -152,21 +161,21 @@ pub record Defers (cap : Option ℕ) (reach : ℕ) (old new : Option ℕ) : Type
   pub narrows : (m : ℕ) → Allows (tighter cap new) m → Allows (tighter cap old) m
   pub later : IsLater cap reach old → IsLater cap reach new
 
--- what an expansion has to keep is kept, for every number of pushes that the cap allows
+-- the expansion keeps what it has to, for every number of pushes that the cap allows
 abbrev pub Expands : Board → Option ℕ → (Scene → Type 0) → ℕ → Scene → Type 0
 Expands board cap Kept k s = (most : ℕ) → Allows cap most → Keeps board most Kept k s
 
--- a push after k pushes is done with: where a play that the cap allows goes on with it and ends solved, some position
--- is kept from which one ends solved with no more pushes
+-- a push after k pushes is done: if a play that the cap allows goes on with it and ends solved, some kept position is
+-- solvable with as few pushes
 abbrev pub IsPushDone : Board → Option ℕ → (Scene → Type 0) → ℕ → Scene → Push → Type 0
 IsPushDone board cap Kept k s p = (m : ℕ) → Allows cap (k + suc m) → SolvableWithin board m (after_push board s p) →
     (t : Scene) × Kept t × SolvableWithin board m t
 
--- the push is to be tried: any is, or with `only` those of the boxes that are held
+-- the push is to be tried: with `only` just those of held boxes, otherwise every push
 abbrev pub IsChosen : Bool → List ℕ → Push → Type 0
 IsChosen only held p = IsTrue only → has_bit held p.square ≡ true
 
--- of the first pushes, those that are to be tried are done with
+-- each of the first `count` pushes that is to be tried is done
 abbrev pub ArePushesDone : Board → Option ℕ → (Scene → Type 0) → (Push → Type 0) → ℕ → Scene → List Push → ℕ → Type 0
 ArePushesDone board cap Kept Tried k s pushes count =
     (i : ℕ) (p : Push) → i < count → slice_get pushes i ≡ Some p → Tried p → IsPushDone board cap Kept k s p

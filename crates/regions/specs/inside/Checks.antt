@@ -18,7 +18,7 @@ pub record Keeps (t : RegionTable) (row z y : ℕ) : Type 0 where
   pub there : byte_for t row z ≤ byte_for t row y
   pub back : place_of t y ≡ 0 → byte_for t row y ≤ byte_for t row z
 
--- so it is with each step from the square
+-- no step between vacant squares from z lessens what the row says
 abbrev pub WalksKeep : Board → RegionTable → (ℕ → Bool) → ℕ → ℕ → Type 0
 WalksKeep board t box row z = IsVacant board box z → (d : Dir) → let y = next board z d in
     IsVacant board box y → Keeps t row z y
@@ -28,18 +28,18 @@ abbrev pub Pays : RegionTable → (ℕ → Dir → ℕ) → ℕ → ℕ → ℕ 
 Pays t waste high low p b r d = waste b d < endless → IsLeft (entry_at t high low p) (waste b d)
     (entry_at t ((high - high_of t b) + high_of t r) ((low - low_of t b) + low_of t r) b)
 
--- a push of a box of the set
+-- what is left pays for the push of a box on b
 abbrev pub PushPays : Board → RegionTable → (ℕ → Dir → ℕ) → (ℕ → Bool) → ℕ → ℕ → ℕ → Dir → Type 0
 PushPays board t waste box high low b d = let p = next board b (opposite d) in let r = next board b d in
     is_wall board b ≡ false → IsVacant board box p → IsVacant board box r → Pays t waste high low p b r d
 
--- a push of a box that isn't seen to a square where it is
+-- what is left pays for the push to r of a box that is not seen before it
 abbrev pub EntryPays : Board → RegionTable → (ℕ → Dir → ℕ) → (ℕ → Bool) → ℕ → ℕ → ℕ → Dir → Type 0
 EntryPays board t waste box high low r d = let b = next board r (opposite d) in let p = next board b (opposite d) in
     is_wall board r ≡ false → is_wall board b ≡ false → is_seat t b ≡ false → IsVacant board box p →
     Pays t waste high low p b r d
 
--- so it is with each push of a box on the square, or to it
+-- what is left pays for the push of a box on q, or, if one box more may be seen, for a push to q
 pub record SeatPays (board : Board) (t : RegionTable) (waste : ℕ → Dir → ℕ) (box : ℕ → Bool) (high low left q : ℕ)
     (d : Dir) : Type 0 where
   pub push : box q ≡ true → PushPays board t waste box high low q d
@@ -60,7 +60,7 @@ sum_where box f xs = sum_over (λ q. cond (box q) (f q) 0) xs
 abbrev pub one : ℕ → ℕ
 one q = 1
 
--- so does each set of boxes that is as marked, except on the rest of the seats, where it has at most `left`
+-- each set of boxes passes that is as marked, except on the rest of the seats, where it has at most `left` boxes
 abbrev pub SetsPass : Board → RegionTable → (ℕ → Dir → ℕ) → Squares → Squares → (ℕ → Bool) → ℕ → ℕ → ℕ → Type 0
 SetsPass board t waste seats rest marks high low left =
     (box : ℕ → Bool) → ((q : ℕ) → contains rest q ≡ false → marks q ≡ box q) → sum_where box one rest ≤ left
@@ -72,7 +72,7 @@ pub record IsListedAt (t : RegionTable) (seats : Squares) (q : ℕ) : Type 0 whe
   pub seat : is_seat t q ≡ true → contains seats q ≡ true
   pub square : place_of t q ≢ 0 → contains t.squares.items q ≡ true
 
--- so is each square of the level
+-- each square of the level is listed where it has to be
 abbrev pub HasSteps : Board → RegionTable → Squares → Type 0
 HasSteps board t seats = (q : ℕ) → q < length board.cells → IsListedAt t seats q
 

@@ -12,7 +12,7 @@ pub record AreSound (v : DistancesView) (tolls : List ℕ) (jobs : List JobView)
   pub parts : AreRegions v.level (parts_of jobs)
   pub paid : ArePaid v.level (far_in v.table) (need_under v tolls) (parts_of jobs)
 
--- so it is with a plan, if there is one, and its needs and its price are those of its tolls
+-- the plan, if there is one, is sound under its tolls, and its needs and its price are those of its tolls
 abbrev pub IsTaken : DistancesView → Option Plan → Type 0
 IsTaken v None = Unit {0}
 IsTaken v (Some plan) = AreSound v plan.tolls.items plan.jobs.items × AreNeeds v plan.tolls.items plan.needs.items ×

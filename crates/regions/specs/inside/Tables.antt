@@ -28,23 +28,23 @@ place_of t q = slice_index_or t.places.items q 0
 abbrev pub row_of : RegionTable → ℕ → ℕ → ℕ
 row_of t high low = slice_index_or t.high_rows.items high 0 + slice_index_or t.low_rows.items low 0
 
--- what a row says, the player being on the place
+-- the entry of a row for a place of the player
 abbrev pub byte_in : RegionTable → ℕ → ℕ → ℕ
 byte_in t row place = slice_index_or t.bytes.items (row + place) 0
 
--- what it says, the player being on the square
+-- the entry of a row for a square of the player
 abbrev pub byte_for : RegionTable → ℕ → ℕ → ℕ
 byte_for t row p = byte_in t row (place_of t p)
 
--- what the table says of boxes with these sums of keys
+-- the entry of boxes with these sums of keys, for a square of the player
 abbrev pub entry_at : RegionTable → ℕ → ℕ → ℕ → ℕ
 entry_at t high low p = byte_for t (row_of t high low) p
 
--- what it says of a state
+-- the entry of a state
 abbrev pub says : RegionTable → Scene → ℕ
 says t s = entry_at t (sum_over (high_of t) s.boxes) (sum_over (low_of t) s.boxes) s.player
 
--- nothing, if there is no table
+-- the entry of a state; 0 without a table
 abbrev pub said : Option RegionTable → Scene → ℕ
 said None s = 0
 said (Some t) s = says t s

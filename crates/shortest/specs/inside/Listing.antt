@@ -31,7 +31,7 @@ abbrev pub IsListedOrLost : Board → ℕ → List Node → ℕ → Scene → Pu
 IsListedOrLost board most all k s p = (m : ℕ) → k + suc m ≡ most → SolvableWithin board m (after_push board s p) →
     IsFoundWithin all (suc k) (after_push board s p)
 
--- so it is after each push that is possible in the listed state
+-- after each push that is possible in the listed state, the next state is listed or lost
 abbrev pub KeepsEach : Board → ℕ → List Node → Node → Type 0
 KeepsEach board most all x = (p : Push) → CanPush board x.position p →
     IsListedOrLost board most all x.pushes x.position p
@@ -61,7 +61,7 @@ EndsListing board most limit v false = (done : ℕ) × IsStateList board most do
 abbrev pub Lists : List Node → List Node → Node → Type 0
 Lists old new e = ((new ≡ old) × IsFoundWithin old e.pushes e.position) ⊎ (new ≡ old ++ e ∷ [])
 
--- so it is with a state after `pushes` pushes, if there is one
+-- the state after `pushes` pushes is listed as `Lists` says; without a state nothing changes
 abbrev pub ListsIf : List Node → List Node → ℕ → Option Scene → Type 0
 ListsIf old new pushes None = new ≡ old
 ListsIf old new pushes (Some s) =
@@ -76,7 +76,7 @@ IsAfter board left s p (Some t) = (t ≡ after_push board s p) × FitsLevel boar
 abbrev pub IsEntryAt : List Node → ℕ → Scene → ℕ → Type 0
 IsEntryAt all place s k = (x : Node) × (slice_get all place ≡ Some x) × (x.position ≡ s) × (x.pushes ≡ k)
 
--- of the first pushes, each is kept
+-- after each of the first `count` pushes the state is listed or lost
 abbrev pub ArePushesKept : Board → ℕ → List Node → ℕ → Scene → List Push → ℕ → Type 0
 ArePushesKept board most all k s pushes count =
     (i : ℕ) (p : Push) → i < count → slice_get pushes i ≡ Some p → IsListedOrLost board most all k s p

@@ -1,12 +1,11 @@
 -- The fewest moves from each listed state to the end.
-use Rattle.std.specs.Prelude.{◌≡◌, ℕ, suc, ◌+◌, ◌*◌, ◌≤◌, ◌<◌, List, [], ◌∷◌, ◌++◌, length, slice_get, Option}
+use Rattle.std.specs.Prelude.{◌≡◌, ℕ, suc, ◌+◌, ◌*◌, ◌≤◌, ◌<◌, List, ◌∷◌, ◌++◌, length, slice_get, Option}
 use Rattle.std.specs.Prelude.{None, Some}
 use Rattle.grid.specs.declared.dir.Dir.{Dir}
 use Rattle.grid.specs.declared.square.Push.{Push}
 use Rattle.grid.specs.Board.{Board, Scene, IsSolved, next, opposite, start}
 use Rattle.grid.specs.Plays.{Play, Any}
 use Rattle.area.specs.Pushes.{CanPush}
-use Rattle.prices.specs.Solving.{SolvableWithin}
 use Rattle.successors.specs.Expansion.{after_push}
 use Rattle.store.specs.Visited.{Node}
 use Rattle.shortest.specs.inside.Listing.{IsEntryAt, StatesView}
@@ -77,7 +76,7 @@ abbrev pub moves_of : Option Way → Option ℕ
 moves_of None = None
 moves_of (Some way) = Some way.moves
 
--- of the first pushes, none begins a play with fewer moves
+-- none of the first `count` pushes begins a play with fewer moves
 abbrev pub AreLeastBy : Board → ℕ → Scene → List Push → ℕ → Option ℕ → Type 0
 AreLeastBy board m s pushes count moves =
     (i : ℕ) (p : Push) → i < count → slice_get pushes i ≡ Some p → IsLeastBy board m s p moves

@@ -44,7 +44,7 @@ more_limit problem limit positions trail books all looked lawful level long more
     }
 
 -- books that are dealt and at work on one layer are all the shares
-pub dealt_shares : (problem : Problem) (limit workers shares : ℕ) (books : List BookView) (layer : LayerView) → 1 ≤ shares →
+dealt_shares : (problem : Problem) (limit workers shares : ℕ) (books : List BookView) (layer : LayerView) → 1 ≤ shares →
     AreDealt problem limit workers shares books → AreWorkingOn layer books → (all : AreAllShares books) × (all.first.level ≡ problem)
     × (length all.first.closed ≡ suc layer.number)
 dealt_shares problem limit workers shares [] layer some dealt working = absurd (omega (arith, dealt.all))

@@ -49,7 +49,7 @@ GoesOn before after workers shares books =
 
 -- ---- a layer begins
 
--- each of several books has changed so
+-- there are as many books as before, and each has changed as `After` says
 abbrev pub HaveChanged : (BookView → BookView → Type 0) → List BookView → List BookView → Type 0
 HaveChanged After before after =
     (length after ≡ length before) × ((i : ℕ) (v : BookView) → slice_get before i ≡ Some v →
@@ -85,12 +85,12 @@ abbrev pub IsCredited : ℕ → ℕ → BookView → BookView → Type 0
 IsCredited worker ranks before after =
     after.tallies ≡ slice_set before.tallies worker (slice_index_or before.tallies worker 0 + ranks)
 
--- only the worker gets credit for the ranks that were done: as many as fewer are left
+-- only the worker gets credit, for as many ranks as the ranks left have become fewer
 abbrev pub IsDoneBy : ℕ → BookView → BookView → Type 0
 IsDoneBy worker before after =
     (ranks : ℕ) × (left_ranks before ≡ left_ranks after + ranks) × IsCredited worker ranks before after
 
--- so it is for each of several books
+-- in each of several books only the worker gets credit for the ranks that were done
 abbrev pub AreDoneBy : ℕ → List BookView → List BookView → Type 0
 AreDoneBy worker before after = HaveChanged (IsDoneBy worker) before after
 

@@ -13,10 +13,10 @@ HasClosed before after = (report : Closed) × IsClosedBy before report after
 abbrev pub MayBeClosed : BookView → BookView → Type 0
 MayBeClosed before after = (after ≡ before) ⊎ HasClosed before after
 
--- so is each of several books
+-- each of several books is unchanged, or has closed the next layer
 abbrev pub MayBeClosedEach : List BookView → List BookView → Type 0
 MayBeClosedEach before after = HaveChanged MayBeClosed before after
 
--- the book has closed the next layer; or it is unchanged, for it is not so that each of its ranks was done
+-- the book has closed the next layer, or some rank of it was not done and it is unchanged
 abbrev pub IsClosedIfDone : BookView → BookView → Type 0
 IsClosedIfDone before after = (¬ (AllDone before) × (after ≡ before)) ⊎ HasClosed before after

@@ -23,7 +23,7 @@ PassTogether limit books = AreLawfulBooks books × (IsOneOver books ⊎ (limit <
 abbrev pub IsStill : LayerView → BookView → BookView → Type 0
 IsStill layer before after = AreMadeAlike before after × (after.closed ≡ before.closed) × HasBegun after layer
 
--- each of several books is so
+-- each of several books is at work on the layer, as before
 abbrev pub AreStill : LayerView → List BookView → List BookView → Type 0
 AreStill layer before after = HaveChanged (IsStill layer) before after
 

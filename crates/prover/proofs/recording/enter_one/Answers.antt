@@ -1,15 +1,16 @@
-use Rattle.std.proofs.Common.{◌≡◌, ◌+◌, ◌∙◌, ℕ, suc, Some, subst, arith}
+use Rattle.std.proofs.Common.{◌≡◌, ◌+◌, ◌∙◌, ℕ, suc, subst, arith}
+use Rattle.std.proofs.lemmas.Result.{on_ok_weaker}
 use Rattle.store.proofs.lemmas.Fitting.{level_fits}
 use Rattle.prover.specs.Frontier.{IsFoundWithin}
 use Rattle.prover.specs.inside.Working.{Enters, StayBelow}
-use Rattle.prover.proofs.Steps.{on_ok_so, under_way_after}
+use Rattle.prover.proofs.Steps.{entry_by, under_way_after}
 use Rattle.prover.proofs.recording.enter_one.Goals as goal
 
 pub open_at-requires : goal.open_at-requires
 open_at-requires c =
     let searched = c.requires.expanding.searched in
-    level_fits c.args.pruner.now.board c.args.frontier.now.boxes c.args.frontier.now.squares c.args.one.now.position searched.boxes searched.squares
-    c.requires.opened.fits
+    level_fits c.args.pruner.now.board c.args.frontier.now.boxes c.args.frontier.now.squares c.args.one.now.position
+    searched.boxes searched.squares c.requires.opened.fits
 
 pub returns-clause-widens : goal.returns-clause-widens
 returns-clause-widens c =
@@ -25,12 +26,11 @@ returns-clause-widens c =
     let (x, at, same, count) = c.requires.expanding.at_place in
     let few = c.requires.expanding.searched.under_way.few place x at in
     let one : k + 1 ≡ suc k = omega arith in
-    on_ok_so c.open_at.result (λ enters. record {
+    on_ok_weaker c.open_at.result (λ enters. record {
       searched = record {
-        under_way = under_way_after board cap old new place k o.total s o.position o.push c.requires.expanding.searched.under_way
-            c.requires.expanding.at_place by.can by.norm by.fits by.total
-            (subst (λ (j : ℕ). Enters old new
-            (record { position = o.position; pushes = j; least = Some o.total; parent = Some (record { place = place; push = o.push }) })) one enters);
+        under_way = under_way_after board cap old new place k o.total s o.position o.push
+            c.requires.expanding.searched.under_way c.requires.expanding.at_place by.can by.norm by.fits by.total
+            (subst (λ (j : ℕ). Enters old new (entry_by place j o.total o.position o.push)) one enters);
         boxes = c.open_at.ensures.size.0 ∙ c.requires.expanding.searched.boxes;
         squares = c.open_at.ensures.size.1 ∙ c.requires.expanding.searched.squares;
       };
@@ -42,5 +42,6 @@ pub returns-clause-found : goal.returns-clause-found
 returns-clause-found c =
     let k = c.args.from.now.pushes in
     let one : k + 1 ≡ suc k = omega arith in
-    on_ok_so c.open_at.result (λ enters. subst (λ (j : ℕ). IsFoundWithin c.open_at.new.self.entries j c.args.one.now.position) one enters.found)
+    on_ok_weaker c.open_at.result
+    (λ enters. subst (λ (j : ℕ). IsFoundWithin c.open_at.new.self.entries j c.args.one.now.position) one enters.found)
     c.open_at.ensures.enters

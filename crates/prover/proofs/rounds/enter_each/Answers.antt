@@ -4,7 +4,7 @@ use Rattle.std.specs.Prelude.{slice_get}
 use Rattle.prover.specs.declared.lane.Pick.{Pick}
 use Rattle.prover.specs.declared.lane.Lane.{Lane}
 use Rattle.prover.proofs.Dealing.{lanes_on}
-use Rattle.prover.proofs.Steps.{goes_then}
+use Rattle.prover.proofs.Entering.{goes_then}
 use Rattle.prover.proofs.rounds.enter_each.Goals as goal
 
 pub enter_pick-requires-clause-pick : goal.enter_pick-requires-clause-pick

@@ -1,10 +1,10 @@
 -- The lanes that were dealt to are those whose picks are done and entered.
 use Rattle.std.proofs.Common.{◌≡◌, ◌∙◌, arith, length, subst, sym}
+use Rattle.std.proofs.lemmas.Result.{on_ok_weaker}
 use Rattle.std.specs.Vec.{with_items}
 use Rattle.store.specs.Visited.{VisitedView}
 use Rattle.prover.specs.inside.Rounds.{AreLanes, IsLane}
 use Rattle.prover.proofs.Dealing.{each_back, lanes_on}
-use Rattle.prover.proofs.Steps.{on_ok_so}
 use Rattle.prover.proofs.rounds.expand_more.Goals as goal
 
 pub deal-requires-clause-lanes : goal.deal-requires-clause-lanes
@@ -41,7 +41,7 @@ returns-clause-desk g c =
     let size = c.as_mut_slice-2.ensures.len in
     let long : length done ≡ dealt.len = omega (arith, all, size) in
     let all = c.deal.new.frontier.entries in
-    on_ok_so c.enter_each.result (λ on. record {
+    on_ok_weaker c.enter_each.result (λ on. record {
       problem = c.enter_each.ensures.problem ∙ c.requires.desk.problem;
       lanes = lanes_on c.args.pruner.now all c.enter_each.new.frontier.entries (with_items dealt done).items on.still
           (each_back (IsLane c.args.pruner.now all) dealt done long c.do_each.ensures.lanes);

@@ -9,8 +9,8 @@ use Rattle.prover.specs.Frontier.{NoneIsOpen}
 use Rattle.prover.specs.inside.SearchEnds.{IsFloor}
 use Rattle.prover.specs.inside.Working.{IsLeastOpen, KeepPlaces, IsSearchOnBoard, turns_left}
 use Rattle.prover.proofs.Dealing.{lanes_on, ready_by, waits_by}
+use Rattle.prover.proofs.Entering.{rounds_lessen, turns_then}
 use Rattle.prover.proofs.Endings.{floor_on, has_more, none_is_allowed, solved_told, under_way_on}
-use Rattle.prover.proofs.Steps.{rounds_lessen, turns_then}
 use Rattle.prover.proofs.searching.run.Goals as goal
 
 pub returns-then-solved-clause-tells : goal.returns-then-solved-clause-tells

@@ -7,7 +7,7 @@ use Rattle.regions.proofs.listing.are_walks_listed_from.Goals as goal
 
 pub returns : goal.returns
 returns c = told_by_four
-    (λ (d : Dir). WalksListed c.args.look.now.level.now c.args.look.now.table.now c.args.look.now.bits.now c.args.walks.now c.args.square d)
+    (λ (d : Dir). WalksListed c.args.look.now c.args.walks.now c.args.square d)
     c.is_walk_listed_to-down.result c.is_walk_listed_to-left.result c.is_walk_listed_to-right.result c.is_walk_listed_to-up.result
     c.is_walk_listed_to-down.ensures c.is_walk_listed_to-left.ensures c.is_walk_listed_to-right.ensures c.is_walk_listed_to-up.ensures
 

@@ -3,13 +3,11 @@ use Rattle.grid.specs.declared.dir.Dir.{Dir}
 use Rattle.grid.proofs.lemmas.Steps.{inside_grid}
 use Rattle.prices.proofs.lemmas.Looks.{told_by_four}
 use Rattle.regions.specs.inside.Listing.{SeatListed}
-use Rattle.regions.specs.inside.Tables.{waste_in}
 use Rattle.regions.proofs.listing.is_seat_listed.Goals as goal
 
 pub returns : goal.returns
 returns c = told_by_four
-    (λ (d : Dir). SeatListed c.args.look.now.level.now c.args.look.now.table.now c.args.look.now.bits.now (waste_in c.args.look.now.wastes.now)
-    c.args.steps.now c.args.seat d)
+    (λ (d : Dir). SeatListed c.args.look.now c.args.steps.now c.args.seat d)
     c.is_seat_listed_to-down.result c.is_seat_listed_to-left.result c.is_seat_listed_to-right.result c.is_seat_listed_to-up.result
     c.is_seat_listed_to-down.ensures c.is_seat_listed_to-left.ensures c.is_seat_listed_to-right.ensures c.is_seat_listed_to-up.ensures
 

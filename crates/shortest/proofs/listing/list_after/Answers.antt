@@ -1,11 +1,12 @@
-use Rattle.std.proofs.Common.{◌≡◌, ◌+◌, ◌-◌, ◌≤◌, ◌∙◌, length, refl, sym, ap, subst, arith}
+use Rattle.std.proofs.Common.{◌+◌, ◌-◌, ◌≤◌, ◌∙◌, length, refl, sym, ap, subst, arith}
 use Rattle.grid.specs.Board.{Board}
 use Rattle.grid.specs.States.{FitsLevel}
 use Rattle.area.specs.Pushes.{ArePushes, CanPush}
 use Rattle.successors.specs.Expanding.{ExpanderView, HasPushesOf}
 use Rattle.successors.specs.Problems.{Problem}
+use Rattle.prover.proofs.lemmas.Lists.{read_again}
 use Rattle.shortest.specs.inside.Listing.{ArePushesKept}
-use Rattle.shortest.proofs.Layering.{after_fits, expanded_on, fits_at, pushed_on, read_push}
+use Rattle.shortest.proofs.Layering.{after_fits, expanded_on, fits_at, pushed_on}
 use Rattle.shortest.proofs.listing.list_after.Goals as goal
 
 pub find_pushes-requires : goal.find_pushes-requires
@@ -27,14 +28,12 @@ loop-index-init c = record {
 pub state_after-after-requires-clause-possible : goal.state_after-after-requires-clause-possible
 state_after-after-requires-clause-possible c =
     let was = c.loop-index.invariant in
-    let ps = c.loop-index.workspace.expander.pushes in
+    let i = c.loop-index.index in
     let p = c.index-pushes-index.result in
-    let end : length c.pushes-index-end.result.now ≡ length c.find_pushes.new.self.pushes = ap length c.pushes-index-end.ensures in
-    let same : length ps ≡ length c.find_pushes.new.self.pushes = ap (λ (v : ExpanderView). length v.pushes) was.same in
-    let read : length c.pushes.result.now ≡ length ps = ap length c.pushes.ensures in
-    subst (λ (b : Board). CanPush b c.args.from.now.state p) was.board
-    (was.found.pushes.each c.loop-index.index p
-    (read_push c.pushes.result.now ps c.loop-index.index p c.pushes.ensures (omega (arith, end, same, read, c.loop-index-test.true)) c.index-pushes-index.is))
+    let here = read_again (λ (v : ExpanderView). v.pushes) c.find_pushes.new.self c.loop-index.workspace.expander
+    c.pushes-index-end.result.now c.pushes.result.now i p c.pushes-index-end.ensures was.same c.pushes.ensures
+    c.loop-index-test.true c.index-pushes-index.is in
+    subst (λ (b : Board). CanPush b c.args.from.now.state p) was.board (was.found.pushes.each i p here)
 
 pub loop-index-preserved : goal.loop-index-preserved
 loop-index-preserved c =
@@ -47,11 +46,9 @@ loop-index-preserved c =
     let p = c.index-pushes-index.result in
     let kept = c.state_after-after.ensures.kept in
     let new = c.list_if_some.new.listed in
-    let end : length c.pushes-index-end.result.now ≡ length c.find_pushes.new.self.pushes = ap length c.pushes-index-end.ensures in
-    let same : length ps ≡ length c.find_pushes.new.self.pushes = ap (λ (v : ExpanderView). length v.pushes) was.same in
-    let read : length c.pushes.result.now ≡ length ps = ap length c.pushes.ensures in
-    let here = read_push c.pushes.result.now ps c.loop-index.index p c.pushes.ensures
-    (omega (arith, end, same, read, c.loop-index-test.true)) c.index-pushes-index.is in
+    let here = read_again (λ (v : ExpanderView). v.pushes) c.find_pushes.new.self c.loop-index.workspace.expander
+    c.pushes-index-end.result.now c.pushes.result.now c.loop-index.index p c.pushes-index-end.ensures was.same
+    c.pushes.ensures c.loop-index-test.true c.index-pushes-index.is in
     let can = subst (λ (b : Board). CanPush b s p) was.board (was.found.pushes.each c.loop-index.index p here) in
     let fewer = c.requires.fewer in
     let top = c.most.ensures in
@@ -89,8 +86,8 @@ returns-clause-listing c =
     let k = c.args.from.now.pushes in
     let was = c.loop-index.invariant in
     let ps = c.loop-index.workspace.expander.pushes in
-    let end : length c.pushes-index-end.result.now ≡ length c.find_pushes.new.self.pushes = ap length c.pushes-index-end.ensures in
-    let same : length ps ≡ length c.find_pushes.new.self.pushes = ap (λ (v : ExpanderView). length v.pushes) was.same in
+    let end = ap length c.pushes-index-end.ensures in
+    let same = ap (λ (v : ExpanderView). length v.pushes) was.same in
     let over : length ps ≤ c.loop-index.index = omega (arith, end, same, c.loop-index-test.false) in
     let pushes : ArePushes board s ps = subst (λ (b : Board). ArePushes b s ps) was.board was.found.pushes in
     record {

@@ -1,10 +1,10 @@
-use Rattle.std.proofs.Common.{◌≡◌, ◌∙◌, length, refl, sym, ap, subst, arith}
+use Rattle.std.proofs.Common.{◌∙◌, refl, sym, ap, subst}
 use Rattle.grid.specs.Board.{Board}
 use Rattle.grid.specs.States.{FitsLevel}
 use Rattle.area.specs.Pushes.{CanPush}
 use Rattle.successors.specs.Expanding.{ExpanderView, HasPushesOf}
 use Rattle.successors.specs.Problems.{Problem}
-use Rattle.shortest.proofs.Layering.{read_push}
+use Rattle.prover.proofs.lemmas.Lists.{read_again}
 use Rattle.shortest.proofs.near.expand.Goals as goal
 
 pub find_pushes-requires : goal.find_pushes-requires
@@ -26,14 +26,12 @@ loop-index-init c = record {
 pub list_after-requires-clause-possible : goal.list_after-requires-clause-possible
 list_after-requires-clause-possible c =
     let was = c.loop-index.invariant in
-    let ps = c.loop-index.memory.workspace.expander.pushes in
+    let i = c.loop-index.index in
     let p = c.index-pushes-index.result in
-    let end : length c.pushes-index-end.result.now ≡ length c.find_pushes.new.self.pushes = ap length c.pushes-index-end.ensures in
-    let same : length ps ≡ length c.find_pushes.new.self.pushes = ap (λ (v : ExpanderView). length v.pushes) was.same in
-    let read : length c.pushes.result.now ≡ length ps = ap length c.pushes.ensures in
-    subst (λ (b : Board). CanPush b c.args.from.now.state p) was.ready.expander
-    (was.found.pushes.each c.loop-index.index p
-    (read_push c.pushes.result.now ps c.loop-index.index p c.pushes.ensures (omega (arith, end, same, read, c.loop-index-test.true)) c.index-pushes-index.is))
+    let here = read_again (λ (v : ExpanderView). v.pushes) c.find_pushes.new.self c.loop-index.memory.workspace.expander
+    c.pushes-index-end.result.now c.pushes.result.now i p c.pushes-index-end.ensures was.same c.pushes.ensures
+    c.loop-index-test.true c.index-pushes-index.is in
+    subst (λ (b : Board). CanPush b c.args.from.now.state p) was.ready.expander (was.found.pushes.each i p here)
 
 pub loop-index-preserved : goal.loop-index-preserved
 loop-index-preserved c =

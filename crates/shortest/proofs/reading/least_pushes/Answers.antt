@@ -1,4 +1,4 @@
-use Rattle.std.proofs.Common.{◌≡◌, ◌<◌, ◌≤◌, suc, ◌++◌, ◌∷◌, [], List, length, rules, Option, sym, ap, subst, arith}
+use Rattle.std.proofs.Common.{◌≡◌, ◌≤◌, suc, ◌++◌, ◌∷◌, [], List, length, rules, Option, sym, ap, subst, arith}
 use Rattle.std.proofs.lemmas.Option.{slice_get_within}
 use Rattle.std.proofs.lemmas.List.{length-append}
 use Rattle.grid.specs.declared.square.Push.{Push}
@@ -29,39 +29,41 @@ best_way-requires-clause-onward c =
     let v = c.args.states.now in
     let from = c.at-from.result in
     let (total, first, reading) = c.loop-from.invariant.reading in
-    let count = reading_count v c.args.rests.now total c.loop-from.place from.pushes from.state c.loop-from.pushes.items reading c.at-from.ensures in
+    let count = reading_count v from.pushes from.state c.requires.rests reading c.at-from.ensures in
     let long : c.len.result ≡ length c.loop-from.pushes.items = search rules in
-    let fewer : from.pushes < v.most = omega (arith, count, long) in
-    reading_onward v c.args.rests.now c.loop-from.place from.pushes from.state c.requires.rests c.at-from.ensures fewer
+    reading_onward v from.pushes from.state c.requires.rests reading c.at-from.ensures (omega (arith, count, long))
 
 pub unreachable-requires : goal.unreachable-requires
 unreachable-requires c =
     let v = c.args.states.now in
     let from = c.at-from.result in
     let (total, first, reading) = c.loop-from.invariant.reading in
-    let count = reading_count v c.args.rests.now total c.loop-from.place from.pushes from.state c.loop-from.pushes.items reading c.at-from.ensures in
+    let count = reading_count v from.pushes from.state c.requires.rests reading c.at-from.ensures in
     let long : c.len.result ≡ length c.loop-from.pushes.items = search rules in
-    let fewer : from.pushes < v.most = omega (arith, count, long) in
-    way_exists v c.args.rests.now total c.loop-from.place from.pushes from.state c.loop-from.pushes.items c.requires.rests reading c.at-from.ensures fewer
-    (λ m sum. subst (λ (o : Option Way). IsRestOf v.board (suc m) from.state (moves_of o)) c.in_default.is (c.best_way.ensures.rest m sum))
+    way_exists v from.pushes from.state c.requires.rests reading c.at-from.ensures (omega (arith, count, long))
+    (λ m sum. subst (λ (o : Option Way). IsRestOf v.board (suc m) from.state (moves_of o)) c.in_default.is
+    (c.best_way.ensures.rest m sum))
 
 pub loop-from-preserved : goal.loop-from-preserved
 loop-from-preserved c =
     let v = c.args.states.now in
-    let rests = c.args.rests.now in
     let from = c.at-from.result in
     let way = c.in-Some.way in
     let read = c.loop-from.pushes.items in
     let (total, first, reading) = c.loop-from.invariant.reading in
-    let count = reading_count v rests total c.loop-from.place from.pushes from.state read reading c.at-from.ensures in
-    let long : c.len.result ≡ length c.loop-from.pushes.items = search rules in
-    let fewer : from.pushes < v.most = omega (arith, count, long) in
+    let count = reading_count v from.pushes from.state c.requires.rests reading c.at-from.ensures in
+    let long : c.len.result ≡ length read = search rules in
     let items : c.push.new.self.items ≡ read ++ way.push ∷ [] = search rules in
-    let more = reading_more v rests total c.loop-from.place from.pushes from.state read way c.tell.ensures c.requires.rests reading c.at-from.ensures fewer
-    c.in-Some.ensures.way (λ m sum. subst (λ (o : Option Way). IsRestOf v.board (suc m) from.state (moves_of o)) c.in-Some.is
+    let more = reading_more v from.pushes from.state c.requires.rests reading c.at-from.ensures way c.tell.ensures
+    (omega (arith, count, long)) c.in-Some.ensures.way
+    (λ m sum. subst (λ (o : Option Way). IsRestOf v.board (suc m) from.state (moves_of o)) c.in-Some.is
     (c.best_way.ensures.rest m sum)) in
     record {
-      reading = (total, first, subst (λ (ps : List Push). IsReading v.board v.entries rests total way.place ps) (sym items) more);
+      reading = (
+        total,
+        first,
+        subst (λ (ps : List Push). IsReading v.board v.entries c.args.rests.now total way.place ps) (sym items) more,
+      );
       few = (let long = ap length items in let one = length-append read (way.push ∷ []) in omega (arith, long, one));
       size = search rules;
       room = search rules;

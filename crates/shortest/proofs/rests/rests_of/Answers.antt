@@ -1,4 +1,4 @@
-use Rattle.std.proofs.Common.{◌≡◌, ◌≤◌, ◌<◌, ◌-◌, ◌∙◌, ℕ, suc, length, refl, sym, ap, subst, arith}
+use Rattle.std.proofs.Common.{◌≡◌, ◌-◌, ◌∙◌, ℕ, suc, sym, subst, arith}
 use Rattle.shortest.specs.inside.Resting.{AreRests}
 use Rattle.shortest.proofs.Onward.{rests_more, rests_none}
 use Rattle.shortest.proofs.rests.rests_of.Goals as goal

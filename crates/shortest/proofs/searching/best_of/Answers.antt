@@ -1,5 +1,4 @@
-use Rattle.std.proofs.Common.{◌≡◌, IfOk, length, subst, sym}
-use Rattle.grid.specs.Board.{Board}
+use Rattle.std.proofs.Common.{IfOk, length, subst, sym}
 use Rattle.lurd.specs.Verdict.{IsVerdict}
 use Rattle.lurd.specs.declared.verdict.Verdict.TheVariants.{Solved}
 use Rattle.prover.specs.Parity.{SomeHas}

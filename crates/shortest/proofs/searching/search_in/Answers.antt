@@ -1,4 +1,4 @@
-use Rattle.std.proofs.Common.{◌≡◌, Bool, true, false, subst}
+use Rattle.std.proofs.Common.{Bool, true, false, subst}
 use Rattle.shortest.specs.inside.Listing.{EndsListing}
 use Rattle.shortest.proofs.Layering.{has_more_states}
 use Rattle.shortest.proofs.searching.search_in.Goals as goal

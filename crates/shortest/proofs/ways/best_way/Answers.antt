@@ -1,19 +1,18 @@
-use Rattle.std.proofs.Common.{◌≡◌, ◌∙◌, ◌+◌, ◌<◌, ◌≤◌, ℕ, suc, Some, None, length, refl, sym, ap, subst, arith}
-use Rattle.std.proofs.lemmas.Bool.{false≢true}
-use Rattle.std.proofs.lemmas.Option.{none-some, slice_get_read}
+use Rattle.std.proofs.Common.{◌∙◌, length, sym, ap, subst, arith}
 use Rattle.grid.specs.Board.{Board}
 use Rattle.grid.specs.States.{FitsLevel}
 use Rattle.area.specs.Pushes.{ArePushes}
 use Rattle.area.specs.WalkLengths.{AreWalkLengths}
-use Rattle.shortest.specs.inside.Resting.{moves_of}
-use Rattle.shortest.proofs.Layering.{read_push}
-use Rattle.shortest.proofs.Onward.{best_is, least_more, onward_fits, ways_if, ways_more}
+use Rattle.shortest.specs.inside.Resting.{IsWay, moves_of}
+use Rattle.prover.proofs.lemmas.Lists.{read_element}
+use Rattle.shortest.proofs.Onward.{best_is, least_more, onward_fits, ways_more}
 use Rattle.shortest.proofs.ways.best_way.Goals as goal
 
 pub possible_pushes-requires-clause-fits : goal.possible_pushes-requires-clause-fits
 possible_pushes-requires-clause-fits c =
     subst (λ (b : Board). FitsLevel b c.args.from.now.state) (sym c.level.ensures)
-    (onward_fits c.args.states.now c.args.rests.now c.args.from.now.pushes c.args.from.now.state c.tell.ensures c.requires.onward)
+    (onward_fits c.args.states.now c.args.rests.now c.args.from.now.pushes c.args.from.now.state c.tell.ensures
+    c.requires.onward)
 
 pub possible_pushes-requires-clause-room : goal.possible_pushes-requires-clause-room
 possible_pushes-requires-clause-room c = c.requires.size ∙ sym (ap (λ (b : Board). length b.cells) c.level.ensures)
@@ -21,16 +20,12 @@ possible_pushes-requires-clause-room c = c.requires.size ∙ sym (ap (λ (b : Bo
 pub measure-requires-clause-fits : goal.measure-requires-clause-fits
 measure-requires-clause-fits c =
     subst (λ (b : Board). FitsLevel b c.args.from.now.state) (sym c.level-2.ensures)
-    (onward_fits c.args.states.now c.args.rests.now c.args.from.now.pushes c.args.from.now.state c.tell.ensures c.requires.onward)
+    (onward_fits c.args.states.now c.args.rests.now c.args.from.now.pushes c.args.from.now.state c.tell.ensures
+    c.requires.onward)
 
 pub way_by-way-requires-clause-measured : goal.way_by-way-requires-clause-measured
 way_by-way-requires-clause-measured c =
     subst (λ (b : Board). AreWalkLengths b c.args.from.now.state c.measure.new.self) c.level-2.ensures c.measure.ensures.lengths
-
-pub returns-clause-way : goal.returns-clause-way
-returns-clause-way c =
-    ways_if c.args.states.now.board c.args.states.now.entries c.args.rests.now
-    c.args.from.now.pushes c.args.from.now.state c.loop-index.best c.loop-index.invariant.ways
 
 pub returns-clause-rest : goal.returns-clause-rest
 returns-clause-rest c = λ m sum.
@@ -38,8 +33,9 @@ returns-clause-rest c = λ m sum.
     let s = c.args.from.now.state in
     let k = c.args.from.now.pushes in
     let all = subst (λ (b : Board). ArePushes b s c.possible_pushes.new.pushes.items) c.level.ensures c.possible_pushes.ensures.pushes in
-    best_is v c.args.rests.now k m s c.possible_pushes.new.pushes.items c.loop-index.index c.loop-index.best c.tell.ensures c.requires.onward sum all
-    (omega (arith, c.len-index-end.ensures.value, c.loop-index-test.false)) c.loop-index.invariant.ways (c.loop-index.invariant.least m sum)
+    best_is v c.args.rests.now k s c.tell.ensures c.requires.onward m c.possible_pushes.new.pushes.items c.loop-index.index
+    c.loop-index.best sum all (omega (arith, c.len-index-end.ensures.value, c.loop-index-test.false))
+    c.loop-index.invariant.ways (c.loop-index.invariant.least m sum)
 
 pub way_by-way-requires-clause-possible : goal.way_by-way-requires-clause-possible
 way_by-way-requires-clause-possible c =
@@ -49,7 +45,7 @@ way_by-way-requires-clause-possible c =
     let same = ap length c.deref.ensures.0 in
     let long = c.len-index-end.ensures.value in
     all.each c.loop-index.index c.index-deref-index.result
-    (read_push c.deref.result.now items c.loop-index.index c.index-deref-index.result c.deref.ensures.0
+    (read_element c.deref.result.now items c.loop-index.index c.index-deref-index.result c.deref.ensures.0
     (omega (arith, same, long, c.loop-index-test.true)) c.index-deref-index.is)
 
 pub loop-index-preserved : goal.loop-index-preserved
@@ -62,11 +58,11 @@ loop-index-preserved c =
     let p = c.index-deref-index.result in
     let same = ap length c.deref.ensures.0 in
     let long = c.len-index-end.ensures.value in
-    let here = read_push c.deref.result.now items c.loop-index.index p c.deref.ensures.0
+    let here = read_element c.deref.result.now items c.loop-index.index p c.deref.ensures.0
     (omega (arith, same, long, c.loop-index-test.true)) c.index-deref-index.is in
     record {
       size = was.size;
-      ways = ways_more v.board v.entries c.args.rests.now k s c.loop-index.best c.way_by-way.result
+      ways = ways_more (λ way. IsWay v.board v.entries c.args.rests.now k s way) c.loop-index.best c.way_by-way.result
           c.lesser-best.result c.lesser-best.ensures.one was.ways c.way_by-way.ensures.way;
       least = λ m sum. least_more v.board m s items c.loop-index.index p
           (moves_of c.loop-index.best) (moves_of c.way_by-way.result) (moves_of c.lesser-best.result) here

@@ -2,7 +2,8 @@ use Rattle.std.proofs.Common.{◌≡◌, ◌∙◌, ℕ, true, refl, sym, ap, su
 use Rattle.grid.specs.Squares.{contains}
 use Rattle.grid.specs.Board.{Scene, next}
 use Rattle.grid.specs.States.{FitsLevel}
-use Rattle.shortest.proofs.Onward.{after_push_fits, box_inside, pushed_is}
+use Rattle.successors.proofs.lemmas.Successors.{after_fits}
+use Rattle.shortest.proofs.Onward.{box_inside, pushed_is}
 use Rattle.shortest.proofs.ways.pushed.Goals as goal
 
 pub next-requires : goal.next-requires
@@ -26,4 +27,4 @@ pub returns-clause-fits : goal.returns-clause-fits
 returns-clause-fits c = subst (FitsLevel c.args.level.now)
     (sym (pushed_is c.args.level.now c.args.level.now c.args.state.now c.copy-after.result c.push.new.self c.args.push c.next.result
     refl c.copy-after.ensures c.next.ensures c.push.ensures))
-    (after_push_fits c.args.level.now c.args.state.now c.args.push c.requires.fits c.requires.possible)
+    (after_fits c.args.level.now c.args.state.now c.requires.fits.scene c.args.push c.requires.fits c.requires.possible)

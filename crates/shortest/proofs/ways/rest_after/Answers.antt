@@ -1,12 +1,11 @@
-use Rattle.std.proofs.Common.{◌≡◌, ◌≢◌, ◌∙◌, ◌+◌, ◌*◌, ◌<◌, ℕ, suc, None, Some, length, refl, sym, ap, subst, arith}
-use Rattle.std.specs.Prelude.{slice_get}
+use Rattle.std.proofs.Common.{◌≡◌, ◌∙◌, Some, refl, sym, ap, subst, arith}
 use Rattle.std.proofs.lemmas.Option.{slice_get-get_or, slice_get_within}
 use Rattle.grid.specs.Board.{Board}
 use Rattle.grid.specs.States.{FitsLevel}
 use Rattle.area.specs.Pushes.{CanPush}
-use Rattle.store.specs.Visited.{Node, IsNew}
+use Rattle.store.specs.Visited.{IsNew}
 use Rattle.successors.specs.Expansion.{after_push}
-use Rattle.shortest.proofs.Onward.{no_rest, not_listed, one_at, onward_fits, other_layer, place_within}
+use Rattle.shortest.proofs.Onward.{no_rest, not_listed, one_at, onward_fits, other_layer}
 use Rattle.shortest.proofs.ways.rest_after.Goals as goal
 
 pub pushed-after-requires-clause-fits : goal.pushed-after-requires-clause-fits

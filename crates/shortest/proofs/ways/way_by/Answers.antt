@@ -1,4 +1,4 @@
-use Rattle.std.proofs.Common.{◌≡◌, ◌∙◌, ◌+◌, ◌*◌, ◌≤◌, ◌<◌, ℕ, suc, length, refl, rules, sym, ap, subst, arith}
+use Rattle.std.proofs.Common.{◌≡◌, ◌+◌, ◌<◌, length, rules, sym, subst, arith}
 use Rattle.grid.specs.Board.{Board}
 use Rattle.shortest.proofs.Onward.{box_inside, least_none, least_some, onward_fits, rest_small, rest_there, walked_behind}
 use Rattle.shortest.proofs.ways.way_by.Goals as goal

@@ -10,8 +10,8 @@ use Rattle.solo.proofs.lead.moves_back.Goals as goal
 pub play_pushes-requires-clause-played : goal.play_pushes-requires-clause-played
 play_pushes-requires-clause-played c =
     let layer = c.args.layer.now in
-    lead_played layer.level c.level.result.now layer.places c.args.rank c.in_ok-pushes.pushes.items c.as_slice.result.now c.level.ensures
-    c.as_slice.ensures.value c.in_ok-pushes.ensures
+    lead_played layer.level c.level.result.now layer.places c.args.rank c.in_ok-pushes.pushes.items
+    c.as_slice.result.now c.level.ensures c.as_slice.ensures.value c.in_ok-pushes.ensures
 
 pub returns-clause-lead : goal.returns-clause-lead
 returns-clause-lead c =
@@ -19,5 +19,5 @@ returns-clause-lead c =
     IfOk-weaker c.play_pushes.result
     (λ moves. (t : Scene) × WritesLeastPlay c.level.result.now c.as_slice.result.now t moves)
     (λ moves. (n : Scene) → slice_get layer.places c.args.rank ≡ Some n → WritesLead layer.level.board n moves)
-    (λ moves w. lead_moves layer.level c.level.result.now layer.places c.args.rank c.in_ok-pushes.pushes.items c.as_slice.result.now moves c.level.ensures
-    c.as_slice.ensures.value c.in_ok-pushes.ensures w) c.play_pushes.ensures.least
+    (lead_moves layer.level c.level.result.now layer.places c.args.rank c.in_ok-pushes.pushes.items c.as_slice.result.now
+    c.level.ensures c.as_slice.ensures.value c.in_ok-pushes.ensures) c.play_pushes.ensures.least

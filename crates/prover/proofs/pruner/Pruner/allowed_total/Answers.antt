@@ -1,6 +1,7 @@
 use Rattle.std.proofs.Common.{◌∙◌, sym, arith}
 use Rattle.std.proofs.lemmas.Bool.{true≢false}
-use Rattle.prover.proofs.Steps.{bound_rounded, none_lost, none_over}
+use Rattle.prover.proofs.Openings.{none_lost, none_over}
+use Rattle.prover.proofs.Steps.{bound_rounded}
 use Rattle.prover.proofs.pruner.Pruner.allowed_total.Goals as goal
 
 pub returns-in_default-clause-none : goal.returns-in_default-clause-none
