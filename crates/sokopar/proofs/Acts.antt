@@ -1,6 +1,7 @@
 -- Acts in order, and what becomes of known bytes.
-use Rattle.std.proofs.Common.{◌≡◌, ◌≤◌, List, [], ◌∷◌, ℕ, ◌++◌, length, take, Option, Some, None, refl, sym, ap, ◌∙◌, subst, arith, append_assoc, append-nil}
+use Rattle.std.proofs.Common.{◌≡◌, ◌≤◌, List, [], ◌∷◌, ℕ, ◌++◌, length, take, Option, Some, None, sym, ap, ◌∙◌, subst, arith, append-nil}
 use Rattle.std.proofs.Common.{length-take-le}
+use Rattle.std.proofs.KnownBytes.{Consumes-kept, Consumes-nil, Consumes-trans}
 use Rattle.std.specs.Io.KnownBytes.{Consumes, Appends, Keeps, IsAtEnd}
 use Rattle.sokopar.specs.Ends.{Act, moved, Pass, none, more, WereAll}
 
@@ -20,24 +21,16 @@ pass_more before acts new bytes all buffer n pass is_new is_all some few =
 
 -- no byte of what was known is gone at first
 pub consumes_none : (known : Option (List ℕ)) (bytes : List ℕ) → bytes ≡ [] → Consumes known known bytes
-consumes_none None bytes is = tt
-consumes_none (Some xs) bytes is = rw is refl
+consumes_none known bytes is = subst (λ bs. Consumes known known bs) (sym is) (Consumes-nil known)
 
 -- some bytes more are gone
 pub consumes_more : (old mid new : Option (List ℕ)) (bytes all part : List ℕ) → Consumes old mid bytes → Consumes mid new part → all ≡ bytes ++ part →
     Consumes old new all
-consumes_more None mid new bytes all part p q is = tt
-consumes_more (Some xs) None new bytes all part p q is = absurd p
-consumes_more (Some xs) (Some ys) None bytes all part p q is = absurd q
-consumes_more (Some xs) (Some ys) (Some zs) bytes all part p q is = p ∙ ap (λ (l : List ℕ). bytes ++ l) q ∙ sym (append_assoc bytes part zs) ∙
-    ap (λ (l : List ℕ). l ++ zs) (sym is)
+consumes_more old mid new bytes all part p q is = subst (λ bs. Consumes old new bs) (sym is) (Consumes-trans old mid new bytes part p q)
 
 -- a read that fails takes none of them
 pub consumes_kept : (old mid new : Option (List ℕ)) (bytes : List ℕ) → Consumes old mid bytes → Keeps mid new → Consumes old new bytes
-consumes_kept None mid new bytes p q = tt
-consumes_kept (Some xs) None new bytes p q = absurd p
-consumes_kept (Some xs) (Some ys) None bytes p q = absurd q
-consumes_kept (Some xs) (Some ys) (Some zs) bytes p q = p ∙ ap (λ (l : List ℕ). bytes ++ l) (sym q)
+consumes_kept = Consumes-kept
 
 -- at the end all of them are gone
 pub were_all : (old mid new : Option (List ℕ)) (bytes buffer : List ℕ) (n : ℕ) → Consumes old mid bytes → Consumes mid new (take n buffer) → n ≡ 0 →
@@ -48,25 +41,6 @@ were_all (Some xs) (Some ys) None bytes buffer n p q zero_long end = absurd q
 were_all (Some xs) (Some ys) (Some zs) bytes buffer n p q zero_long end =
     let gone : ys ≡ [] = q ∙ ap (λ (k : ℕ). take k buffer ++ zs) zero_long ∙ end in
     (p ∙ ap (λ (l : List ℕ). bytes ++ l) gone ∙ append-nil bytes, end)
-
--- what is held grows by no part
-pub appends_none : (known : Option (List ℕ)) → Appends known known []
-appends_none None = tt
-appends_none (Some xs) = sym (append-nil xs)
-
--- what is held grows by one part and then another
-pub appends_more : (old mid new : Option (List ℕ)) (bytes part : List ℕ) → Appends old mid bytes → Appends mid new part → Appends old new (bytes ++ part)
-appends_more None mid new bytes part p q = tt
-appends_more (Some xs) None new bytes part p q = absurd p
-appends_more (Some xs) (Some ys) None bytes part p q = absurd q
-appends_more (Some xs) (Some ys) (Some zs) bytes part p q = q ∙ ap (λ (l : List ℕ). l ++ part) p ∙ append_assoc xs bytes part
-
--- what is held after a write that failed
-pub appends_kept : (old mid new : Option (List ℕ)) (bytes : List ℕ) → Appends old mid bytes → Keeps mid new → Appends old new bytes
-appends_kept None mid new bytes p q = tt
-appends_kept (Some xs) None new bytes p q = absurd p
-appends_kept (Some xs) (Some ys) None bytes p q = absurd q
-appends_kept (Some xs) (Some ys) (Some zs) bytes p q = q ∙ p
 
 -- a write that takes no byte keeps what is held
 pub keeps_none : (old new : Option (List ℕ)) (text : List ℕ) (n : ℕ) → Appends old new (take n text) → n ≡ 0 → Keeps old new

@@ -1,9 +1,8 @@
 -- A collection, as its levels are judged and written one by one.
-use Rattle.std.proofs.Common.{◌≡◌, ℕ, suc, ◌+◌, ◌<◌, ◌≤◌, Bool, cond, List, [], ◌∷◌, ◌++◌, length, Some, None, Result, Ok, Err}
+use Rattle.std.proofs.Common.{◌≡◌, ℕ, suc, ◌+◌, ◌<◌, ◌≤◌, List, [], ◌∷◌, ◌++◌, length, Some, None, Result, Ok, Err}
 use Rattle.std.proofs.Common.{IfErr, inl, inr, refl, sym, ap, ◌∙◌, subst, arith, length-append}
-use Rattle.std.specs.List.{count_by}
-use Rattle.std.proofs.lemmas.List.Recursion.{is_count_by}
 use Rattle.std.proofs.lemmas.List.Sums.{count_by-le-length}
+use mathlib.Core.List.{map-append}
 use Rattle.xsb.specs.declared.entry.BoardEntry.{BoardEntry}
 use Rattle.xsb.specs.declared.limits.TheConstants.{MAX_FILE}
 use Rattle.xsb.specs.declared.reader.Collection.{Collection}
@@ -11,89 +10,67 @@ use Rattle.xsb.specs.inside.Progress.{HasRead, GivesNext, lines_left}
 use Rattle.sokopar.specs.Ends.{Seen}
 use Rattle.sokopar.specs.Entries.{listed_of}
 use Rattle.sokopar.specs.Levels.{AreReported, none, outside, inside, BeginsListing, BeginsReportOnLevels, IsBetween, IsReportOnLevels}
-use Rattle.sokopar.specs.Levels.{EndsWith, beyond, within, is_beaten, is_missing, is_optimal, is_out_of_memory, is_undecided, is_unjudged, is_unread}
-use Rattle.sokopar.specs.Levels.{is_unsolved, lines_of, worst_status}
+use Rattle.sokopar.specs.Levels.{EndsWith, beyond, within, count_of, is_one_of, lines_of, worst_status}
 use Rattle.sokopar.specs.Listing.{Listed}
 use Rattle.sokopar.specs.Report.{no_level}
 use Rattle.sokopar.specs.Runs.{ReadsWhole, RunsByLine, Stops, WritesLines, WritesPart, WritesWhole}
 use Rattle.sokopar.specs.Runs as runs
 use Rattle.sokopar.specs.declared.fault.RunFault.{RunFault}
-use Rattle.sokopar.specs.declared.fault.RunFault.TheVariants.{Read, Write, TooLong, OutOfMemory}
+use Rattle.sokopar.specs.declared.fault.RunFault.TheVariants.{Write, OutOfMemory}
+use Rattle.sokopar.specs.declared.reported.Kind.{Kind}
+use Rattle.sokopar.specs.declared.reported.Kind.TheVariants as kind
 use Rattle.sokopar.specs.declared.reported.Reported.{Reported}
 use Rattle.sokopar.specs.declared.totals.Totals.{Totals}
 use Rattle.sokopar.specs.inside.Sending.{Sends, SendsByLine, SendsLast, SendsLevel, SendsLevels, SendsLine, StopsByLine}
-use Rattle.sokopar.specs.inside.Totals.{AreFewLevels, counted, status_of, totals_of}
+use Rattle.sokopar.specs.inside.Totals.{AreFewLevels, count_with, counted, status_of, totals_of}
 use Rattle.xsb.proofs.lemmas.Cutting.{rest_of}
-use Rattle.sokopar.proofs.Listings.{HasListed, good-first, good-on, listed-all, listed-more}
+use Rattle.sokopar.proofs.Listings.{HasListed, count-last, listed-all, listed-more}
 
 -- ---- totals
 
-abbrev tally : {X : Type 0} → (X → Bool) → List X → ℕ
-tally test [] = 0
-tally test (x ∷ xs) = cond (test x) (1 + tally test xs) (tally test xs)
-
-tally-is : {X : Type 0} (test : X → Bool) (xs : List X) → tally test xs ≡ count_by test xs
-tally-is test xs = is_count_by (tally test) test refl (λ x xs. refl) xs
-
-tally-last : {X : Type 0} (test : X → Bool) (xs : List X) (x : X) → tally test (xs ++ x ∷ []) ≡ cond (test x) (tally test xs + 1) (tally test xs)
-tally-last test [] x = good-first (test x) 0
-tally-last test (y ∷ xs) x = good-on (test y) (test x) (tally test xs) (tally test (xs ++ x ∷ [])) (tally-last test xs x)
-
-count-last : {X : Type 0} (test : X → Bool) (xs : List X) (x : X) → count_by test (xs ++ x ∷ []) ≡ cond (test x) (count_by test xs + 1) (count_by test xs)
-count-last test xs x = sym (tally-is test (xs ++ x ∷ [])) ∙ tally-last test xs x ∙
-    ap (λ (n : ℕ). cond (test x) (n + 1) n) (tally-is test xs)
+-- one level more has one of these kinds, or not
+count-more : (reported : List Reported) (one : Reported) (kinds : List Kind) →
+    count_with kinds one.kind (count_of kinds reported) ≡ count_of kinds (reported ++ one ∷ [])
+count-more reported one kinds = sym (count-last (λ (r : Reported). is_one_of kinds r.kind) reported one)
 
 -- the totals grow by a level
 totals-last : (reported : List Reported) (one : Reported) → counted (totals_of reported) one.kind ≡ totals_of (reported ++ one ∷ [])
 totals-last reported one =
     let long : length reported + 1 ≡ length (reported ++ one ∷ []) = sym (length-append reported (one ∷ [])) in
-    let optimal = sym (count-last (λ (r : Reported). is_optimal r.kind) reported one) in
-    let unsolved = sym (count-last (λ (r : Reported). is_unsolved r.kind) reported one) in
-    let beaten = sym (count-last (λ (r : Reported). is_beaten r.kind) reported one) in
-    let undecided = sym (count-last (λ (r : Reported). is_undecided r.kind) reported one) in
-    let out_of_memory = sym (count-last (λ (r : Reported). is_out_of_memory r.kind) reported one) in
-    let unjudged = sym (count-last (λ (r : Reported). is_unjudged r.kind) reported one) in
-    let unread = sym (count-last (λ (r : Reported). is_unread r.kind) reported one) in
-    let missing = sym (count-last (λ (r : Reported). is_missing r.kind) reported one) in
     λ i. record {
       levels = long i;
-      optimal = optimal i;
-      unsolved = unsolved i;
-      beaten = beaten i;
-      undecided = undecided i;
-      out_of_memory = out_of_memory i;
-      unjudged = unjudged i;
-      unread = unread i;
-      missing = missing i;
+      optimal = count-more reported one (kind.Optimal ∷ []) i;
+      unsolved = count-more reported one (kind.Unsolved ∷ []) i;
+      beaten = count-more reported one (kind.Beaten ∷ []) i;
+      undecided = count-more reported one (kind.Open ∷ kind.OutOfMemory ∷ []) i;
+      out_of_memory = count-more reported one (kind.OutOfMemory ∷ []) i;
+      unjudged = count-more reported one (kind.NotJudged ∷ kind.CannotRead ∷ []) i;
+      unread = count-more reported one (kind.CannotRead ∷ []) i;
+      missing = count-more reported one (kind.Missing ∷ []) i;
     }
 
+few-count : (reported : List Reported) → length reported ≤ MAX_FILE → (kinds : List Kind) → count_of kinds reported ≤ MAX_FILE
+few-count reported few kinds =
+    let count : count_of kinds reported ≤ length reported = count_by-le-length (λ (r : Reported). is_one_of kinds r.kind) reported in
+    omega (arith, count, few)
+
 few-of : (reported : List Reported) → length reported ≤ MAX_FILE → AreFewLevels (totals_of reported)
-few-of reported few =
-    let optimal = count_by-le-length (λ (r : Reported). is_optimal r.kind) reported in
-    let unsolved = count_by-le-length (λ (r : Reported). is_unsolved r.kind) reported in
-    let beaten = count_by-le-length (λ (r : Reported). is_beaten r.kind) reported in
-    let undecided = count_by-le-length (λ (r : Reported). is_undecided r.kind) reported in
-    let out_of_memory = count_by-le-length (λ (r : Reported). is_out_of_memory r.kind) reported in
-    let unjudged = count_by-le-length (λ (r : Reported). is_unjudged r.kind) reported in
-    let unread = count_by-le-length (λ (r : Reported). is_unread r.kind) reported in
-    let missing = count_by-le-length (λ (r : Reported). is_missing r.kind) reported in
-    record {
-      levels = few;
-      optimal = omega (arith, optimal, few);
-      unsolved = omega (arith, unsolved, few);
-      beaten = omega (arith, beaten, few);
-      undecided = omega (arith, undecided, few);
-      out_of_memory = omega (arith, out_of_memory, few);
-      unjudged = omega (arith, unjudged, few);
-      unread = omega (arith, unread, few);
-      missing = omega (arith, missing, few);
-    }
+few-of reported few = record {
+  levels = few;
+  optimal = few-count reported few (kind.Optimal ∷ []);
+  unsolved = few-count reported few (kind.Unsolved ∷ []);
+  beaten = few-count reported few (kind.Beaten ∷ []);
+  undecided = few-count reported few (kind.Open ∷ kind.OutOfMemory ∷ []);
+  out_of_memory = few-count reported few (kind.OutOfMemory ∷ []);
+  unjudged = few-count reported few (kind.NotJudged ∷ kind.CannotRead ∷ []);
+  unread = few-count reported few (kind.CannotRead ∷ []);
+  missing = few-count reported few (kind.Missing ∷ []);
+}
 
 -- ---- lines
 
 lines-last : (reported : List Reported) (one : Reported) → lines_of (reported ++ one ∷ []) ≡ lines_of reported ++ one.text ∷ []
-lines-last [] one = refl
-lines-last (first ∷ reported) one = ap (λ (ls : List (List ℕ)). first.text ∷ ls) (lines-last reported one)
+lines-last reported one = map-append (λ (r : Reported). r.text) reported (one ∷ [])
 
 -- a line more after the first line
 line-more : (head : List ℕ) (old mid new : Seen) (reported : List Reported) (one : Reported) → WritesLines old mid (head ∷ lines_of reported) →
@@ -204,15 +181,13 @@ begins-report IsRight head from to bytes left listing reported so_far right = (l
 pub stopped_first : (IsRight : ℕ → Listed → Reported → Type 0) (head : List ℕ) (from to : ℕ) (bytes : List ℕ) (left : Collection) (text : List ℕ)
     (old new : Seen) (fault : RunFault) → HasRead bytes left [] → text ≡ head → SendsLine {A = Unit} text old new (Err fault) →
     StopsByLine (BeginsReportOnLevels IsRight head from to bytes) old new fault
-stopped_first IsRight head from to bytes left text old new Read read same sends = absurd sends
 stopped_first IsRight head from to bytes left text old new Write read same sends = (
   [],
   head,
   begins-report IsRight head from to bytes left [] [] (record { founds = []; read = read; each = tt }) none,
   record { between = old; whole = runs.none; part = subst (λ (l : List ℕ). WritesPart old new l) same sends },
 )
-stopped_first IsRight head from to bytes left text old new TooLong read same sends = absurd sends
-stopped_first IsRight head from to bytes left text old new OutOfMemory read same sends = absurd sends
+stopped_first IsRight head from to bytes left text old new fault read same sends = absurd sends
 
 -- memory was refused between two lines
 pub stopped_between : (IsRight : ℕ → Listed → Reported → Type 0) (head : List ℕ) (from to : ℕ) (bytes : List ℕ) (left : Collection) (number : ℕ)
@@ -228,7 +203,6 @@ pub stopped_within : {IsRight : ℕ → Listed → Reported → Type 0} {head : 
     GivesNext bytes is.so_far.founds last (Some entry) → IsBetween from to (number + 1) →
     SendsLevel IsRight (number + 1) (listed_of entry) totals mid new (Err fault) →
     StopsByLine (BeginsReportOnLevels IsRight head from to bytes) old new fault
-stopped_within {IsRight} {head} {from} {to} {bytes} {first} {number} {totals} {old} {mid} last entry Read new is next in_range sends = absurd sends
 stopped_within {IsRight} {head} {from} {to} {bytes} {first} {number} {totals} {old} {mid} last entry Write new is next in_range sends =
     let counted_are = is.counted_are in
     let one = sends.0 in
@@ -241,12 +215,12 @@ stopped_within {IsRight} {head} {from} {to} {bytes} {first} {number} {totals} {o
           (begins-report IsRight head from to bytes last (is.listing ++ listed_of entry ∷ []) (is.reported ++ one ∷ []) so_far right),
       record { between = mid; whole = is.written; part = sends.2 },
     )
-stopped_within {IsRight} {head} {from} {to} {bytes} {first} {number} {totals} {old} {mid} last entry TooLong new is next in_range sends = absurd sends
 stopped_within {IsRight} {head} {from} {to} {bytes} {first} {number} {totals} {old} {mid} last entry OutOfMemory new is next in_range sends = (
   head ∷ lines_of is.reported,
   begins-report IsRight head from to bytes first is.listing is.reported is.so_far is.right,
   subst (λ (s : Seen). WritesLines old s (head ∷ lines_of is.reported)) (sym sends) is.written,
 )
+stopped_within {IsRight} {head} {from} {to} {bytes} {first} {number} {totals} {old} {mid} last entry fault new is next in_range sends = absurd sends
 
 -- no board more: the lines of all levels are written
 pub reported_all : {IsRight : ℕ → Listed → Reported → Type 0} {head : List ℕ} {from to : ℕ} {bytes : List ℕ} {first : Collection} {number : ℕ} {totals : Totals} {old new : Seen}
@@ -271,10 +245,8 @@ pub last_beyond : (from count : ℕ) (last : List ℕ) (worst : ℕ) (old new : 
     Sends (no_level from) old new result → SendsLast from count last worst old new result
 last_beyond from count last worst old new (Ok status) few sends =
     ((no_level from).text, subst (λ (s : ℕ). EndsWith from count last worst (no_level from).text s) (sym sends.1) (beyond few), sends.0)
-last_beyond from count last worst old new (Err Read) few sends = absurd sends
 last_beyond from count last worst old new (Err Write) few sends = ((no_level from).text, (no_level from).status, beyond few, sends)
-last_beyond from count last worst old new (Err TooLong) few sends = absurd sends
-last_beyond from count last worst old new (Err OutOfMemory) few sends = absurd sends
+last_beyond from count last worst old new (Err fault) few sends = absurd sends
 
 -- there is one, and the last line is written
 pub last_within : (from count : ℕ) (last : List ℕ) (worst : ℕ) (old new : Seen) → from ≤ count → WritesWhole old new last →
@@ -284,20 +256,17 @@ last_within from count last worst old new many written = (last, within many, wri
 -- it is not written whole
 pub last_stopped : (from count : ℕ) (last : List ℕ) (worst : ℕ) (old new : Seen) (fault : RunFault) → from ≤ count → SendsLine {A = Unit} last old new (Err fault) →
     SendsLast from count last worst old new (Err fault)
-last_stopped from count last worst old new Read many sends = absurd sends
 last_stopped from count last worst old new Write many sends = (last, worst, within many, sends)
-last_stopped from count last worst old new TooLong many sends = absurd sends
-last_stopped from count last worst old new OutOfMemory many sends = absurd sends
+last_stopped from count last worst old new fault many sends = absurd sends
 
 -- ---- the report
 
 -- the lines of the levels were not written whole
 pub stops_by_line : (IsReport : List (List ℕ) → ℕ → Type 0) (Begins : List (List ℕ) → Type 0) (old new : Seen) (fault : RunFault) →
     StopsByLine Begins old new fault → SendsByLine IsReport Begins old new (Err fault)
-stops_by_line IsReport Begins old new Read stops = absurd stops
 stops_by_line IsReport Begins old new Write stops = (stops.0, stops.1, inl stops.2, stops.3)
-stops_by_line IsReport Begins old new TooLong stops = absurd stops
 stops_by_line IsReport Begins old new OutOfMemory stops = stops
+stops_by_line IsReport Begins old new fault stops = absurd stops
 
 -- memory was refused after them
 pub stopped_last : (IsRight : ℕ → Listed → Reported → Type 0) (head : List ℕ) (from to : ℕ) (bytes : List ℕ) (count : ℕ) (totals : Totals) (old new : Seen) →
@@ -315,19 +284,18 @@ sent_last IsRight head last from to bytes count totals old mid new (Ok status) i
   (is.listing, is.lists, is.reported, is.right, sends.0, sends.1, refl),
   runs.more new sends.0 is.written sends.2,
 )
-sent_last IsRight head last from to bytes count totals old mid new (Err Read) is sends = absurd sends
 sent_last IsRight head last from to bytes count totals old mid new (Err Write) is sends = (
   head ∷ lines_of is.reported,
   sends.0,
   inr (sends.1, (is.listing, is.lists, is.reported, is.right, sends.0, sends.2, refl)),
   record { between = mid; whole = is.written; part = sends.3 },
 )
-sent_last IsRight head last from to bytes count totals old mid new (Err TooLong) is sends = absurd sends
 sent_last IsRight head last from to bytes count totals old mid new (Err OutOfMemory) is sends = (
   head ∷ lines_of is.reported,
   (is.listing, is.begins, is.reported, is.right, refl),
   subst (λ (s : Seen). WritesLines old s (head ∷ lines_of is.reported)) (sym sends) is.written,
 )
+sent_last IsRight head last from to bytes count totals old mid new (Err fault) is sends = absurd sends
 
 -- the text and the status of the last line are by the totals
 pub sent_all : (IsRight : ℕ → Listed → Reported → Type 0) (head : List ℕ) (last : List Reported → List ℕ) (from to : ℕ) (bytes : List ℕ) (count : ℕ)
@@ -350,15 +318,13 @@ pub runs_by_line : (IsReport : List ℕ → List (List ℕ) → ℕ → Type 0) 
     (bytes : List ℕ) (result : Result ℕ RunFault) → ReadsWhole source read bytes → SendsByLine (IsReport bytes) (Begins bytes) sink written result →
     RunsByLine IsReport Begins source read sink written result
 runs_by_line IsReport Begins source read sink written bytes (Ok status) whole sends = (bytes, sends.0, whole, sends.1, sends.2)
-runs_by_line IsReport Begins source read sink written bytes (Err Read) whole sends = absurd sends
 runs_by_line IsReport Begins source read sink written bytes (Err Write) whole sends = (bytes, sends.0, sends.1, whole, sends.2, sends.3)
-runs_by_line IsReport Begins source read sink written bytes (Err TooLong) whole sends = absurd sends
 runs_by_line IsReport Begins source read sink written bytes (Err OutOfMemory) whole sends = inr (bytes, sends.0, whole, sends.1, sends.2)
+runs_by_line IsReport Begins source read sink written bytes (Err fault) whole sends = absurd sends
 
 -- the reading stopped, and nothing was written
 pub stopped_reading : (IsReport : List ℕ → List (List ℕ) → ℕ → Type 0) (Begins : List ℕ → List (List ℕ) → Type 0) (source read sink : Seen) (fault : RunFault) →
     Stops source read fault → RunsByLine IsReport Begins source read sink sink (Err fault)
-stopped_reading IsReport Begins source read sink Read stops = (stops, refl)
 stopped_reading IsReport Begins source read sink Write stops = absurd stops.cause
-stopped_reading IsReport Begins source read sink TooLong stops = (stops, refl)
 stopped_reading IsReport Begins source read sink OutOfMemory stops = inl (stops, refl)
+stopped_reading IsReport Begins source read sink fault stops = (stops, refl)

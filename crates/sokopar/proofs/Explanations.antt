@@ -52,15 +52,15 @@ explained-none bytes wanted left page gaps read few at_line is = record {
 
 -- a level more
 pub explained-more : {bytes : List ℕ} {wanted : Option ℕ} {first : Collection} {page : Page} {gaps : Broken} {levels good : ℕ}
-    (last : Collection) (source : BoardSource) (new : Page) (left : Broken) (now : ℕ) (t : Bool)
+    (last : Collection) (source : BoardSource) (new : Page) (left : Broken) (now : ℕ)
     (is : HasExplained bytes wanted first page gaps levels good) → GivesSource bytes is.checked.so_far.founds last (Some source) →
-    lines_left last < lines_left first → t ≡ is_good (listed_of source.entry) → now ≡ cond t (good + 1) good →
+    lines_left last < lines_left first → now ≡ cond (is_good (listed_of source.entry)) (good + 1) good →
     IsPage bytes wanted (is.checked.listing ++ listed_of source.entry ∷ []) new left →
     HasExplained bytes wanted last new left (levels + 1) now
-explained-more {bytes} {wanted} {first} {page} {gaps} {levels} {good} last source new left now t is next fewer lawful grown said = record {
+explained-more {bytes} {wanted} {first} {page} {gaps} {levels} {good} last source new left now is next fewer grown said = record {
   lines = is.lines ++ check_line (levels + 1) (listed_of source.entry);
-  checked = checked-more last source.entry (is.lines ++ check_line (levels + 1) (listed_of source.entry)) now t is.checked
-      (next.0, next.1, next.2) fewer lawful grown refl;
+  checked = checked-more last source.entry (is.lines ++ check_line (levels + 1) (listed_of source.entry)) now is.checked
+      (next.0, next.1, next.2) fewer grown refl;
   at_line = next.3;
   page = said;
 }
@@ -106,12 +106,10 @@ level-told bytes wanted number listing listed board places remark old new count 
     (told listed board places remark picture before (ap (is_wanted wanted) (sym count) ∙ is) at_line judged true_of tells.1))
 
 -- or it is another one
-pub level-other : (bytes : List ℕ) (wanted : Option ℕ) (number : ℕ) (listing : List Listed) (listed : Listed) (old new : Page) →
-    number ≡ suc (length listing) → is_wanted wanted number ≡ false → new ≡ old →
-    Explains bytes wanted listing old.text old.sound → Explains bytes wanted (listing ++ listed ∷ []) new.text new.sound
-level-other bytes wanted number listing listed old new count is same before =
-    subst (λ p. Explains bytes wanted (listing ++ listed ∷ []) p.text p.sound) (sym same)
-    (other listed before (ap (is_wanted wanted) (sym count) ∙ is))
+pub level-other : (bytes : List ℕ) (wanted : Option ℕ) (number : ℕ) (listing : List Listed) (listed : Listed) (page : Page) →
+    number ≡ suc (length listing) → is_wanted wanted number ≡ false →
+    Explains bytes wanted listing page.text page.sound → Explains bytes wanted (listing ++ listed ∷ []) page.text page.sound
+level-other bytes wanted number listing listed page count is before = other listed before (ap (is_wanted wanted) (sym count) ∙ is)
 
 -- texts one after the other
 pub three_said : (old first second third one two new : List ℕ) → one ≡ old ++ first → two ≡ one ++ second → new ≡ two ++ third →
@@ -119,11 +117,6 @@ pub three_said : (old first second third one two new : List ℕ) → one ≡ old
 three_said old first second third one two new a b c =
     c ∙ ap (λ t. t ++ third) (b ∙ ap (λ t. t ++ second) a ∙ append_assoc old first second)
     ∙ append_assoc old (first ++ second) third
-
--- something is found
-pub and-false : (b : Bool) → (b && false) ≡ false
-and-false true = refl
-and-false false = refl
 
 quiet-sound : (sound so_far : Bool) (none : Bool) → (sound && none) ≡ true → so_far ≡ (so_far && sound)
 quiet-sound true true none is = refl

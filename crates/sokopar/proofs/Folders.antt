@@ -1,36 +1,42 @@
 -- What the report on the solutions of a folder has of a level.
-use Rattle.std.proofs.Common.{◌≡◌, ◌⊎◌, ℕ, List, [], Option, Some, None, Result, Ok, Err, IfErr, IfOk, IfSome, ap, ◌∙◌, refl, subst}
+use Rattle.std.proofs.Common.{◌≡◌, ℕ, List, [], Option, Some, None, Result, Ok, Err, IfErr, IfOk, IfSome, refl, sym, subst}
 use Rattle.grid.specs.Board.{Board}
 use Rattle.grid.specs.declared.fault.LevelFault.{LevelFault}
 use Rattle.sokopar.specs.Ends.{Seen}
-use Rattle.sokopar.specs.Folder.{IsJudgedFrom, IsProvedFrom, judged_of, stopped_by, without_solution}
+use Rattle.sokopar.specs.Folder.{IsJudgedFrom, IsProvedFrom, judged_of, stopped_by}
 use Rattle.sokopar.specs.Folder as folder
 use Rattle.sokopar.specs.Listing.{Listed}
-use Rattle.sokopar.specs.Proving.{IsJudgementOn}
-use Rattle.sokopar.specs.Runs.{ReadsIfSome, Stops}
+use Rattle.sokopar.specs.Proving.{IsJudgement, IsJudgementOn}
+use Rattle.sokopar.specs.Runs.{ReadsWhole, Stops}
 use Rattle.sokopar.specs.declared.fault.RunFault.{RunFault}
 use Rattle.sokopar.specs.declared.judgement.Judgement.{Judgement}
+use Rattle.sokopar.specs.declared.judgement.Judgement.TheVariants.{Faulty}
 use Rattle.sokopar.specs.declared.proving.SolutionsRequest.{SolutionsRequest}
 use Rattle.sokopar.specs.declared.reported.Reported.{Reported}
 
 -- what was read of a file is judged
-pub file_judged : {File : Type 0} (seen : File → Seen) (request : SolutionsRequest) (level : Result Board LevelFault) (file read : File)
-    (judged : Result Judgement RunFault) (judgement : Judgement) → judged ≡ Ok judgement →
-    IfOk judged (λ j. (text : Option (List ℕ)) × ReadsIfSome (seen file) (seen read) text ×
-    IsJudgementOn request.moves request.limit level text j) → IsJudgedFrom seen request level file judgement
-file_judged seen request level file read judged judgement same has =
-    let is = subst (λ (r : Result Judgement RunFault). IfOk r (λ j. (text : Option (List ℕ)) × ReadsIfSome (seen file) (seen read) text ×
-    IsJudgementOn request.moves request.limit level text j)) same has in
-    folder.judged read is.0 is.1 is.2
+pub file_judged : {File : Type 0} (seen : File → Seen) (request : SolutionsRequest) (level : Result Board LevelFault) (board : Board) (file read : File)
+    (judged : Result Judgement RunFault) (judgement : Judgement) → level ≡ Ok board → judged ≡ Ok judgement →
+    IfOk judged (λ j. (text : List ℕ) × ReadsWhole (seen file) (seen read) text × IsJudgement request.moves request.limit board text j) →
+    IsJudgedFrom seen request level file judgement
+file_judged seen request level board file read judged judgement lawful same has =
+    let is = subst (λ (r : Result Judgement RunFault). IfOk r (λ j. (text : List ℕ) × ReadsWhole (seen file) (seen read) text ×
+    IsJudgement request.moves request.limit board text j)) same has in
+    folder.judged read (Some is.0) is.1
+    (subst (λ (l : Result Board LevelFault). IsJudgementOn request.moves request.limit l (Some is.0) judgement) (sym lawful) (is.0, refl, is.2))
+
+-- the board is faulty, and nothing is read
+pub file_faulty : {File : Type 0} (seen : File → Seen) (request : SolutionsRequest) (level : Result Board LevelFault) (fault : LevelFault) (file : File) →
+    level ≡ Err fault → IsJudgedFrom seen request level file (Faulty fault)
+file_faulty seen request level fault file is = folder.judged file None refl
+    (subst (λ (l : Result Board LevelFault). IsJudgementOn request.moves request.limit l None (Faulty fault)) (sym is) (refl, refl))
 
 -- reading it stopped
 pub file_stopped : {File : Type 0} (seen : File → Seen) (request : SolutionsRequest) (level : Result Board LevelFault) (file read : File)
     (judged : Result Judgement RunFault) (fault : RunFault) (judgement : Judgement) → judged ≡ Err fault →
-    IfErr judged (λ f. (board : Board) × (level ≡ Ok board) × Stops (seen file) (seen read) f) → judgement ≡ stopped_by fault →
-    IsJudgedFrom seen request level file judgement
+    IfErr judged (Stops (seen file) (seen read)) → judgement ≡ stopped_by fault → IsJudgedFrom seen request level file judgement
 file_stopped seen request level file read judged fault judgement same stops made =
-    let stop = subst (λ (r : Result Judgement RunFault). IfErr r (λ f. (board : Board) × (level ≡ Ok board) × Stops (seen file) (seen read) f)) same stops in
-    folder.unread read fault stop.2 made
+    folder.unread read fault (subst (λ (r : Result Judgement RunFault). IfErr r (Stops (seen file) (seen read))) same stops) made
 
 -- the line of a board is that of its level
 pub same_listed : {E : Type 0} (request : SolutionsRequest) (n : ℕ) (shown listed : Listed) (judgement : Judgement) (P : Listed → Judgement → Type 0)

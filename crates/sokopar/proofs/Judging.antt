@@ -1,11 +1,9 @@
 -- The reports of a search for the fewest pushes.
-use Rattle.std.proofs.Common.{◌≡◌, ◌⊎◌, ap, ◌∙◌, ℕ, ◌<◌, ◌≤◌, Bool, true, false, List, [], ◌∷◌, length, Option, Some, None, Result, Ok, Err, IfOk, inl, inr, refl, sym, subst, arith}
-use Rattle.std.proofs.lemmas.List.{append-nil}
+use Rattle.std.proofs.Common.{◌≡◌, ℕ, ◌<◌, ◌≤◌, Bool, true, false, List, [], ◌∷◌, length, Option, Some, None, Result, Ok, Err, IfOk, inl, inr, refl, sym, subst, arith}
 use Rattle.grid.specs.Board.{Board}
 use Rattle.grid.proofs.lemmas.Plays.{length-pushes}
 use Rattle.grid.specs.Lawful.{box_count}
 use Rattle.grid.specs.Plays.{dirs_of}
-use Rattle.grid.specs.declared.fault.LevelFault.{LevelFault}
 use Rattle.grid.specs.declared.limits.TheConstants.{MAX_BOXES}
 use Rattle.grid.specs.declared.moves.Letter.{Letter}
 use Rattle.lurd.proofs.lemmas.Solutions.{solution_of_solved}
@@ -27,7 +25,6 @@ use Rattle.shortest.specs.declared.outcome.MovesOutcome.{MovesOutcome}
 use Rattle.shortest.specs.declared.outcome.MovesOutcome.TheVariants as moves_outcome
 use Rattle.sokopar.specs.Best as best
 use Rattle.sokopar.specs.Collection.{IsFinding, IsFound, reported_of}
-use Rattle.sokopar.specs.Ends.{Seen}
 use Rattle.sokopar.specs.Listing.{Listed}
 use Rattle.sokopar.specs.Moves.{IsBestSolution, IsClaim}
 use Rattle.sokopar.specs.Proving as proving
@@ -38,15 +35,11 @@ use Rattle.sokopar.specs.declared.moves.MovesClaim.{MovesClaim}
 use Rattle.sokopar.specs.declared.moves.MovesClaim.TheVariants.{Counted, Fewest, Open}
 use Rattle.sokopar.specs.declared.outcome.BestOutcome.{BestOutcome}
 use Rattle.sokopar.specs.declared.outcome.BestOutcome.TheVariants as best_outcome
-use Rattle.sokopar.specs.declared.fault.RunFault.{RunFault}
-use Rattle.sokopar.specs.declared.fault.RunFault.TheVariants as run
 use Rattle.sokopar.specs.declared.judgement.Judgement.{Judgement}
 use Rattle.sokopar.specs.declared.judgement.Judgement.TheVariants.{BadText}
 use Rattle.sokopar.specs.declared.proving.SearchConfig.{SearchConfig}
 use Rattle.sokopar.specs.declared.reported.Reported.{Reported}
-use Rattle.sokopar.specs.Report.{Report, IsSearchOf, ReportsOnText, too_many_boxes}
-use Rattle.sokopar.specs.Runs.{ReadsIfSome, ReadsWhole, Stops}
-use Rattle.sokopar.proofs.Reading.{stops_after}
+use Rattle.sokopar.specs.Report.{Report, IsSearchOf, too_many_boxes}
 
 -- ---- a level
 
@@ -230,43 +223,3 @@ pub of_fault : {E : Type 0} (wanted : Bool) (limit : ℕ) (board : Board) (solut
     IfOk r (λ judgement. proving.IsJudgement wanted limit board solution judgement)
 of_fault wanted limit board solution fault (Ok judgement) has is = inr (fault, has, is)
 of_fault wanted limit board solution fault (Err e) has is = tt
-
--- ---- the solution of a level
-
--- what is judged of the text that was read
-pub judged_text : (wanted : Bool) (limit : ℕ) (old new : Seen) (level : Result Board LevelFault) (board : Board) (text : List ℕ) (judgement : Judgement) →
-    level ≡ Ok board → ReadsWhole old new text → proving.IsJudgement wanted limit board text judgement →
-    (read : Option (List ℕ)) × ReadsIfSome old new read × proving.IsJudgementOn wanted limit level read judgement
-judged_text wanted limit old new level board text judgement is reads has =
-    (Some text, reads, subst (λ l. proving.IsJudgementOn wanted limit l (Some text) judgement) (sym is) (text, refl, has))
-
--- the report of what is judged is that on the chosen level
-pub reports_judged : (wanted : Bool) (limit n : ℕ) (old new : Seen) (chosen : Option (Result Board LevelFault)) (level : Result Board LevelFault)
-    (judgement : Judgement) (report : Report) → chosen ≡ Some level →
-    (text : Option (List ℕ)) × ReadsIfSome old new text × proving.IsJudgementOn wanted limit level text judgement →
-    report ≡ proving.judgement_report limit judgement →
-    (text : Option (List ℕ)) × ReadsIfSome old new text × ReportsOnText (proving.IsProofOf wanted limit) n chosen text report
-reports_judged wanted limit n old new chosen level judgement report is judged made =
-    (judged.0, judged.1, subst (λ at. ReportsOnText (proving.IsProofOf wanted limit) n at judged.0 report) (sym is) (on level judged.2))
-  where
-    on : (level : Result Board LevelFault) → proving.IsJudgementOn wanted limit level judged.0 judgement →
-        ReportsOnText (proving.IsProofOf wanted limit) n (Some level) judged.0 report
-    on (Ok board) (text, read, has) = (text, read, (judgement, has, made))
-    on (Err fault) (none, faulty) =
-        (none, made ∙ ap (proving.judgement_report limit) faulty ∙ ap (λ (text : List ℕ). record { text = text; status = 1 }) (append-nil _))
-
--- reading the solution stopped
-pub stops_chosen : (old new : Seen) (chosen : Option (Result Board LevelFault)) (level : Result Board LevelFault) (fault : RunFault) → chosen ≡ Some level →
-    (board : Board) × (level ≡ Ok board) × Stops old new fault →
-    ((fault ≡ run.OutOfMemory) × (new ≡ old)) ⊎ ((board : Board) × (chosen ≡ Some (Ok board)) × Stops old new fault)
-stops_chosen old new chosen level fault is (board, lawful, stops) = inr (board, is ∙ ap Some lawful, stops)
-
--- memory was refused once the solution was judged
-pub stops_judged : (wanted : Bool) (limit : ℕ) (old new : Seen) (chosen : Option (Result Board LevelFault)) (level : Result Board LevelFault)
-    (judgement : Judgement) (fault : RunFault) → fault ≡ run.OutOfMemory → chosen ≡ Some level →
-    (text : Option (List ℕ)) × ReadsIfSome old new text × proving.IsJudgementOn wanted limit level text judgement →
-    ((fault ≡ run.OutOfMemory) × (new ≡ old)) ⊎ ((board : Board) × (chosen ≡ Some (Ok board)) × Stops old new fault)
-stops_judged wanted limit old new chosen (Ok board) judgement fault memory is (text, reads, (solution, some, has)) =
-    inr (board, is, subst (Stops old new) (sym memory) (stops_after old new solution (subst (ReadsIfSome old new) some reads)))
-stops_judged wanted limit old new chosen (Err named) judgement fault memory is (text, reads, (none, faulty)) =
-    inl (memory, subst (ReadsIfSome old new) none reads)

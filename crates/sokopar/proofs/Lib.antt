@@ -11,9 +11,9 @@ mod Pictures
 mod Piping
 mod Reading
 mod Remarks
+mod Reporting
 mod Sentencing
 mod Solutions
-mod Solved
 mod Walks
 mod Writing
 pub mod Written

@@ -1,25 +1,21 @@
 -- A collection, as its boards are judged one by one.
-use Rattle.std.proofs.Common.{◌≡◌, ◌≢◌, ℕ, zero, suc, ◌+◌, ◌-◌, ◌<◌, ◌≤◌, Bool, true, false, cond, List, [], ◌∷◌, ◌++◌, length, Option, Some, None, Result, Ok}
-use Rattle.std.proofs.Common.{Err, IfOk, IfErr, ◌⊎◌, inl, inr, option_map, slice_get, ◌==◌, if◌then◌else◌, codes, decimal, refl, sym, ap, ◌∙◌, subst, arith}
+use Rattle.std.proofs.Common.{◌≡◌, ◌≢◌, ℕ, zero, suc, ◌+◌, ◌-◌, ◌<◌, ◌≤◌, Bool, true, false, cond, List, [], ◌∷◌, ◌++◌, length, Option, Some, None, Result}
+use Rattle.std.proofs.Common.{option_map, slice_get, ◌==◌, if◌then◌else◌, codes, decimal, refl, sym, ap, ◌∙◌, arith}
 use Rattle.std.proofs.Common.{length-append, append_assoc}
-use Rattle.std.specs.List.{AllZip}
+use Rattle.std.specs.List.{AllZip, count_by}
 use Rattle.std.proofs.lemmas.List.{append-nil}
-use Rattle.std.proofs.lemmas.List.Recursion.{is_count_by}
+use Rattle.std.proofs.lemmas.List.Sums.{fold-append}
 use Rattle.grid.specs.Board.{Board}
 use Rattle.grid.specs.declared.fault.LevelFault.{LevelFault}
-use Rattle.sokopar.specs.Ends.{Seen}
-use Rattle.sokopar.specs.declared.fault.RunFault.{RunFault}
-use Rattle.sokopar.specs.declared.fault.RunFault.TheVariants.{OutOfMemory}
-use Rattle.sokopar.specs.Runs.{ReadsWhole, ReadsIfSome, Stops}
 use Rattle.xsb.specs.Collection.{Found}
 use Rattle.xsb.specs.declared.entry.BoardEntry.{BoardEntry}
 use Rattle.xsb.specs.declared.limits.TheConstants.{MAX_FILE}
 use Rattle.xsb.specs.declared.reader.Collection.{Collection}
 use Rattle.xsb.specs.inside.Progress.{HasRead, GivesNext, lines_left}
 use Rattle.sokopar.specs.Entries.{listed_of}
-use Rattle.sokopar.specs.Listing.{Listed, IsListed, IsLevelListing, IsLevelOf, level_at}
+use Rattle.sokopar.specs.Listing.{Listed, IsListed, IsLevelListing, level_at}
 use Rattle.sokopar.specs.inside.Parts.{is_good}
-use Rattle.sokopar.specs.Report.{Report, ReportsOnText, IsCheckReport, line, check_line, check_lines, good_count}
+use Rattle.sokopar.specs.Report.{Report, IsCheckReport, line, check_line, check_lines, check_report, good_count}
 
 -- the boards so far, judged
 pub record HasListed (bytes : List ℕ) (left : Collection) (listing : List Listed) : Type 0 where
@@ -78,74 +74,49 @@ lines-last n p (l ∷ listing) listed at =
     ap (λ t. check_line n l ++ t) (lines-last (suc n) p listing listed (omega arith)) ∙
     sym (append_assoc (check_line n l) (check_lines (suc n) listing) (check_line p listed))
 
-abbrev pub goods : List Listed → ℕ
-goods [] = 0
-goods (l ∷ listing) = cond (is_good l) (1 + goods listing) (goods listing)
+one-more : (b : Bool) (n : ℕ) → n + cond b 1 0 ≡ cond b (n + 1) n
+one-more true n = refl
+one-more false n = omega arith
 
-pub goods-are : (listing : List Listed) → goods listing ≡ good_count listing
-goods-are listing = is_count_by goods is_good refl (λ x xs. refl) listing
-
-pub good-first : (b : Bool) (n : ℕ) → cond b (1 + n) n ≡ cond b (n + 1) n
-good-first true n = omega arith
-good-first false n = refl
-
-pub good-on : (b t : Bool) (n m : ℕ) → m ≡ cond t (n + 1) n → cond b (1 + m) m ≡ cond t (cond b (1 + n) n + 1) (cond b (1 + n) n)
-good-on true true n m e = let f : m ≡ n + 1 = e in omega arith
-good-on true false n m e = ap (λ k. 1 + k) e
-good-on false true n m e = e
-good-on false false n m e = e
-
-pub goods-last : (listing : List Listed) (listed : Listed) → goods (listing ++ listed ∷ []) ≡ cond (is_good listed) (goods listing + 1) (goods listing)
-goods-last [] listed = good-first (is_good listed) 0
-goods-last (l ∷ listing) listed = good-on (is_good l) (is_good listed) (goods listing) (goods (listing ++ listed ∷ [])) (goods-last listing listed)
+-- an item more passes a test or not
+pub count-last : {X : Type 0} (test : X → Bool) (xs : List X) (x : X) → count_by test (xs ++ x ∷ []) ≡ cond (test x) (count_by test xs + 1) (count_by test xs)
+count-last test xs x = fold-append (λ n y. n + cond (test y) 1 0) 0 xs (x ∷ []) ∙ one-more (test x) (count_by test xs)
 
 pub good-bound : (t : Bool) (now good levels : ℕ) → now ≡ cond t (good + 1) good → good ≤ levels → now ≤ levels + 1
 good-bound true now good levels e few = let f : now ≡ good + 1 = e in omega arith
 good-bound false now good levels e few = let f : now ≡ good = e in omega arith
 
 -- a board more is checked
-abbrev pub checked-more : {bytes text : List ℕ} {first : Collection} {levels good : ℕ} (last : Collection) (entry : BoardEntry) (more : List ℕ) (now : ℕ) (t : Bool)
+abbrev pub checked-more : {bytes text : List ℕ} {first : Collection} {levels good : ℕ} (last : Collection) (entry : BoardEntry) (more : List ℕ) (now : ℕ)
     (is : HasChecked bytes first text levels good)
-    → GivesNext bytes is.so_far.founds last (Some entry) → lines_left last < lines_left first → t ≡ is_good (listed_of entry) → now ≡ cond t (good + 1) good
+    → GivesNext bytes is.so_far.founds last (Some entry) → lines_left last < lines_left first → now ≡ cond (is_good (listed_of entry)) (good + 1) good
     → more ≡ text ++ check_line (levels + 1) (listed_of entry) → HasChecked bytes last more (levels + 1) now
-checked-more {bytes} {text} {first} {levels} {good} last entry more now t is next fewer lawful grown line =
+checked-more {bytes} {text} {first} {levels} {good} last entry more now is next fewer grown line =
     let count = is.count in let long = length-append is.listing (listed_of entry ∷ []) in let room = is.room in
-    let before : good ≡ goods is.listing = is.lawful ∙ sym (goods-are is.listing) in
     record {
       listing = is.listing ++ listed_of entry ∷ [];
       so_far = listed-more last entry is.so_far next;
       lines = line ∙ ap (λ l. l ++ check_line (levels + 1) (listed_of entry)) is.lines ∙
           sym (lines-last 1 (levels + 1) is.listing (listed_of entry) (omega arith));
       count = omega arith;
-      lawful = grown ∙ ap (λ (b : Bool). cond b (good + 1) good) lawful ∙ ap (λ (n : ℕ). cond (is_good (listed_of entry)) (n + 1) n) before
-          ∙ sym (goods-last is.listing (listed_of entry)) ∙ goods-are (is.listing ++ listed_of entry ∷ []);
-      few = good-bound t now good levels grown is.few;
+      lawful = grown ∙ ap (λ (n : ℕ). cond (is_good (listed_of entry)) (n + 1) n) is.lawful ∙ sym (count-last is_good is.listing (listed_of entry));
+      few = good-bound (is_good (listed_of entry)) now good levels grown is.few;
       room = omega arith;
     }
 
+-- the report of some lines, by the numbers of levels and of lawful ones
+abbrev pub report_with : List ℕ → ℕ → ℕ → Report
+report_with text levels good = record {
+  text = text ++ line (decimal levels ++ codes " levels, " ++ decimal good ++ codes " good");
+  status = if good == levels then 0 else 1;
+}
+
 -- no board more: the collection is checked
 pub checked-all : {bytes text : List ℕ} {left : Collection} {levels good : ℕ} (last : Collection) (is : HasChecked bytes left text levels good)
-    → GivesNext bytes is.so_far.founds last None → (report : Report)
-    → report ≡ record {
-      text = text ++ line (decimal levels ++ codes " levels, " ++ decimal good ++ codes " good");
-      status = if good == levels then 0 else 1;
-    } → IsCheckReport bytes report
-checked-all {bytes} {text} {left} {levels} {good} last is all report made = (
-  is.listing,
-  listed-all last is.so_far all,
-  made ∙ ap (λ t. record {
-    text = t ++ line (decimal levels ++ codes " levels, " ++ decimal good ++ codes " good");
-    status = if good == levels then 0 else 1;
-  }) is.lines
-      ∙ ap (λ n. record {
-        text = check_lines 1 is.listing ++ line (decimal n ++ codes " levels, " ++ decimal good ++ codes " good");
-        status = if good == n then 0 else 1;
-      }) is.count
-      ∙ ap (λ n. record {
-        text = check_lines 1 is.listing ++ line (decimal (length is.listing) ++ codes " levels, " ++ decimal n ++ codes " good");
-        status = if n == length is.listing then 0 else 1;
-      }) is.lawful,
-)
+    → GivesNext bytes is.so_far.founds last None → (report : Report) → report ≡ report_with text levels good → IsCheckReport bytes report
+checked-all {bytes} {text} {left} {levels} {good} last is all report made =
+    let same : report_with text levels good ≡ check_report is.listing = λ i. report_with (is.lines i) (is.count i) (is.lawful i) in
+    (is.listing, listed-all last is.so_far all, made ∙ same)
 
 -- how far a level was looked for by its number
 pub record HasLooked (bytes : List ℕ) (left : Collection) (number count : ℕ) (chosen : Option (Result Board LevelFault)) : Type 0 where
@@ -207,35 +178,3 @@ looked-on {bytes} {first} {number} {count} {chosen} last entry is next fewer som
           (get-other is.listing (listed_of entry) (number - 1) (λ e. other (omega (arith, e, counted, some)))));
       room = omega arith;
     }
-
--- the text of a solution that was read on a lawful level, with its report
-pub text_read : (Has : Board → List ℕ → Report → Type 0) (old new : Seen) (n : ℕ) (level : Option (Result Board LevelFault)) (board : Board)
-    (text : List ℕ) (report : Report) → level ≡ Some (Ok board) → ReadsWhole old new text → Has board text report
-    → (read : Option (List ℕ)) × ReadsIfSome old new read × ReportsOnText Has n level read report
-text_read Has old new n level board text report is reads has =
-    let P : Option (Result Board LevelFault) → Type 0 = λ at. ReportsOnText Has n at (Some text) report in
-    (Some text, reads, subst P (sym is) (text, refl, has))
-
--- the level that was chosen is that of the number
-pub at_number : {E : Type 0} (bytes : List ℕ) (n : ℕ) (chosen : Option (Result Board LevelFault)) (P : Option (Result Board LevelFault) → Report →
-    Type 0) (result : Result Report E)
-    → (listing : List Listed) × IsLevelListing bytes listing × (chosen ≡ level_at listing n) → IfOk result (λ r. P chosen r)
-    → IfOk result (λ r. (listing : List Listed) × IsLevelListing bytes listing × P (level_at listing n) r)
-at_number bytes n chosen P (Ok r) has is = (has.0, has.1, subst (λ at. P at r) has.2 is)
-at_number bytes n chosen P (Err e) has is = tt
-
-pub text_at : {E : Type 0} (Has : Board → List ℕ → Report → Type 0) (bytes : List ℕ) (n : ℕ) (chosen : Option (Result Board LevelFault)) (old new : Seen)
-    (result : Result Report E) → (listing : List Listed) × IsLevelListing bytes listing × (chosen ≡ level_at listing n)
-    → IfOk result (λ r. (text : Option (List ℕ)) × ReadsIfSome old new text × ReportsOnText Has n chosen text r)
-    → IfOk result (λ r. (text : Option (List ℕ)) × ReadsIfSome old new text ×
-    ((listing : List Listed) × IsLevelListing bytes listing × ReportsOnText Has n (level_at listing n) text r))
-text_at Has bytes n chosen old new (Ok r) has is = (is.0, is.1, (has.0, has.1, subst (λ at. ReportsOnText Has n at is.0 r) has.2 is.2))
-text_at Has bytes n chosen old new (Err e) has is = tt
-
-pub stopped_at : (bytes : List ℕ) (n : ℕ) (chosen : Option (Result Board LevelFault)) (old new : Seen) (result : Result Report RunFault)
-    → (listing : List Listed) × IsLevelListing bytes listing × (chosen ≡ level_at listing n)
-    → IfErr result (λ f. ((f ≡ OutOfMemory) × (new ≡ old)) ⊎ ((board : Board) × (chosen ≡ Some (Ok board)) × Stops old new f))
-    → IfErr result (λ f. ((f ≡ OutOfMemory) × (new ≡ old)) ⊎ ((board : Board) × IsLevelOf bytes n board × Stops old new f))
-stopped_at bytes n chosen old new (Ok r) has is = tt
-stopped_at bytes n chosen old new (Err f) has (inl memory) = inl memory
-stopped_at bytes n chosen old new (Err f) has (inr stop) = inr (stop.0, (has.0, has.1, sym has.2 ∙ stop.1), stop.2)

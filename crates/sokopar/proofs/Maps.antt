@@ -25,16 +25,8 @@ bytes_grow IsByte bytes byte have next q below = by_place (cases_lt q (length by
       let e = get_or-append_seam bytes byte [] 0 in
       subst P (sym here) (rw e next)
 
--- the first squares have their marks
-abbrev pub HaveMarks : Board → List ℕ → Type 0
-HaveMarks board marks = HaveBytes (IsMark board) marks
-
--- the list of marks grows by the mark of the next square
-pub marks_grow : (board : Board) (marks : List ℕ) (mark : ℕ) → HaveMarks board marks → IsMark board (length marks) mark → HaveMarks board (marks ++ mark ∷ [])
-marks_grow board marks mark have next = bytes_grow (IsMark board) marks mark have next
-
 -- all squares have their marks
-pub marks_all : (board : Board) (marks : List ℕ) → length marks ≡ length board.cells → HaveMarks board marks → AreMarks board marks
+pub marks_all : (board : Board) (marks : List ℕ) → length marks ≡ length board.cells → HaveBytes (IsMark board) marks → AreMarks board marks
 marks_all board marks count have = record { count = count; each = λ q below. have q (omega arith) }
 
 -- a space at the end is cut off

@@ -18,14 +18,13 @@ use Rattle.solo.specs.Answers.{IsAnswer}
 use Rattle.solo.specs.declared.answer.Answer.{Answer}
 use Rattle.xsb.specs.Collection.{Found, IsCollection, IsJudged}
 use Rattle.xsb.specs.Written.{rows_from}
-use Rattle.sokopar.specs.DeadMap.{IsMark, wall, goal, dead, other, AreMarks, IsDeadReport, marked_row}
+use Rattle.sokopar.specs.DeadMap.{IsMark, wall, goal, dead, other, AreMarks, IsDeadReport, IsMapOf, marked_row}
 use Rattle.sokopar.specs.Listing.{Listed, IsListed, IsLevelListing, level_at}
 use Rattle.sokopar.specs.OneAtMost.{IsOneAtMost}
 use Rattle.sokopar.specs.OneReport.{IsOnlyReport}
 use Rattle.sokopar.specs.Report.{Report, IsReplayOf, IsCheckReport, IsShowReport, IsReplayReport, ReportsOnText, ReportsOn, IsShown, check_report}
 use Rattle.sokopar.specs.Report.{text_fault_report, verdict_report}
 use Rattle.sokopar.specs.Solving.{IsSolveOf, IsSolveReport, answer_report}
-use Rattle.sokopar.specs.inside.Parts.{MapsOn, SolvesOn}
 
 -- ---- one listing
 
@@ -128,10 +127,8 @@ same_marks board xs ys one two =
     let within : i < length board.cells = omega (arith, inside, two_count) in
     same_mark (two.each i within) (one.each i within))
 
-same_map : (n : ℕ) (level : Option (Result Board LevelFault)) → IsOneAtMost (λ report. MapsOn n level report)
-same_map n None report others told also = also ∙ sym told
-same_map n (Some (Err fault)) report others told also = also ∙ sym told
-same_map n (Some (Ok board)) report others (xs, are, told) (ys, ares, also) =
+same_map : (board : Board) → IsOneAtMost (λ report. IsMapOf board report)
+same_map board report others (xs, are, told) (ys, ares, also) =
     let of : List ℕ → Report = λ marks. record { text = flat_map marked_row (rows_from (row_count board) board.cols marks); status = 0 } in
     also ∙ ap of (same_marks board xs ys are ares) ∙ sym told
 
@@ -194,33 +191,31 @@ same_solve law cap limit board lawful report others (inr (few, more)) (inl (many
 same_solve law cap limit board lawful report others (inr (few, (a, is, told))) (inr (few₁, (b, iss, also))) =
     also ∙ ap (answer_report cap limit) (law (capped board cap) limit b a lawful iss is) ∙ sym told
 
-same_solve_on : IsOneAnswer → (cap : Option ℕ) (limit n : ℕ) (level : Option (Result Board LevelFault)) →
-    ((board : Board) → level ≡ Some (Ok board) → IsLevel board)
-    → IsOneAtMost (λ report. SolvesOn cap limit n level report)
-same_solve_on law cap limit n None lawful report others told also = also ∙ sym told
-same_solve_on law cap limit n (Some (Err fault)) lawful report others told also = also ∙ sym told
-same_solve_on law cap limit n (Some (Ok board)) lawful report others told also = same_solve law cap limit board (lawful board refl) report others told also
-
 -- ---- one report of the bytes, by the commands
 
 pub one_check_report : AreOneCollection → (bytes : List ℕ) → IsOneAtMost (λ report. IsCheckReport bytes report)
 one_check_report law bytes report others (xs, lists, told) (ys, listed, also) =
     also ∙ ap check_report (one_listing law bytes xs ys lists listed) ∙ sym told
 
-same_shown : (n : ℕ) (level : Option (Result Board LevelFault)) → IsOneAtMost (λ report. ReportsOn IsShown n level report)
-same_shown n None report others told also = also ∙ sym told
-same_shown n (Some (Err fault)) report others told also = also ∙ sym told
-same_shown n (Some (Ok board)) report others told also = also ∙ sym told
+same_on : (Has : Board → Report → Type 0) (n : ℕ) (level : Option (Result Board LevelFault)) →
+    ((board : Board) → level ≡ Some (Ok board) → IsOneAtMost (λ report. Has board report)) → IsOneAtMost (λ report. ReportsOn Has n level report)
+same_on Has n None one report others told also = also ∙ sym told
+same_on Has n (Some (Err fault)) one report others told also = also ∙ sym told
+same_on Has n (Some (Ok board)) one report others told also = one board refl report others told also
+
+one_on : AreOneCollection → (Has : Board → Report → Type 0) (n : ℕ) (bytes : List ℕ) →
+    ((board : Board) → IsLevel board → IsOneAtMost (λ report. Has board report)) →
+    IsOneAtMost (λ report. (listing : List Listed) × IsLevelListing bytes listing × ReportsOn Has n (level_at listing n) report)
+one_on law Has n bytes one report others (xs, lists, told) (ys, listed, also) =
+    let P : List Listed → Type 0 = λ l. ReportsOn Has n (level_at l n) others in
+    same_on Has n (level_at xs n) (λ board is. one board (lawful_at lists.0 xs (n - 1) board lists.2 is)) report others told
+    (subst P (one_listing law bytes xs ys lists listed) also)
 
 pub one_show_report : AreOneCollection → (n : ℕ) (bytes : List ℕ) → IsOneAtMost (λ report. IsShowReport n bytes report)
-one_show_report law n bytes report others (xs, lists, told) (ys, listed, also) =
-    let P : List Listed → Type 0 = λ l. ReportsOn IsShown n (level_at l n) others in
-    same_shown n (level_at xs n) report others told (subst P (one_listing law bytes xs ys lists listed) also)
+one_show_report law n bytes = one_on law IsShown n bytes (λ board lawful report others told also. also ∙ sym told)
 
 pub one_dead_report : AreOneCollection → (n : ℕ) (bytes : List ℕ) → IsOneAtMost (λ report. IsDeadReport n bytes report)
-one_dead_report law n bytes report others (xs, lists, told) (ys, listed, also) =
-    let P : List Listed → Type 0 = λ l. MapsOn n (level_at l n) others in
-    same_map n (level_at xs n) report others told (subst P (one_listing law bytes xs ys lists listed) also)
+one_dead_report law n bytes = one_on law IsMapOf n bytes (λ board lawful. same_map board)
 
 pub one_replay_report : AreOneCollection → IsOneReading → IsOneVerdict → (n : ℕ) (bytes : List ℕ) (solution : Option (List ℕ)) →
     IsOneAtMost (λ report. IsReplayReport n bytes solution report)
@@ -230,10 +225,7 @@ one_replay_report law reading judging n bytes solution report others (xs, lists,
 
 pub one_solve_report : AreOneCollection → IsOneAnswer → (cap : Option ℕ) (limit n : ℕ) (bytes : List ℕ) →
     IsOneAtMost (λ report. IsSolveReport cap limit n bytes report)
-one_solve_report law answering cap limit n bytes report others (xs, lists, told) (ys, listed, also) =
-    let P : List Listed → Type 0 = λ l. SolvesOn cap limit n (level_at l n) others in
-    same_solve_on answering cap limit n (level_at xs n) (λ board. lawful_at lists.0 xs (n - 1) board lists.2) report others told
-    (subst P (one_listing law bytes xs ys lists listed) also)
+one_solve_report law answering cap limit n bytes = one_on law (IsSolveOf cap limit) n bytes (same_solve answering cap limit)
 
 -- a report that was made is the only one
 pub only_report : {E : Type 0} (IsReport : List ℕ → Report → Type 0) (bytes : List ℕ) → IsOneAtMost (λ report. IsReport bytes report) →

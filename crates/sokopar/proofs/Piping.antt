@@ -11,9 +11,8 @@ use Rattle.solo.specs.declared.answer.Answer.TheVariants as answer
 use Rattle.successors.specs.Capping.{capped}
 use Rattle.solo.specs.Answers.{IsAnswer}
 use Rattle.sokopar.specs.Listing.{Listed, IsLevelListing, level_at}
-use Rattle.sokopar.specs.Report.{Report, IsReplayOf, IsReplayReport, ReportsOnText, line, verdict_report}
-use Rattle.sokopar.specs.Solving.{IsSolveReport, answer_report}
-use Rattle.sokopar.specs.inside.Parts.{SolvesOn}
+use Rattle.sokopar.specs.Report.{Report, IsReplayOf, IsReplayReport, ReportsOn, ReportsOnText, line, verdict_report}
+use Rattle.sokopar.specs.Solving.{IsSolveOf, IsSolveReport, answer_report}
 use Rattle.sokopar.specs.Retelling.{ReplaysAsTold}
 use Rattle.sokopar.proofs.OneReport.{AreOneCollection, IsOneReading, IsOneVerdict, one_replay_report}
 use Rattle.sokopar.proofs.Solutions.{solution_replays, text_line}
@@ -61,7 +60,7 @@ told_replays laws cap limit n bytes board has report answer.Limit is told good =
 
 at_level : Laws → (cap : Option ℕ) (limit n : ℕ) (bytes : List ℕ) (listing : List Listed) → IsLevelListing bytes listing →
     (report : Report) (level : Option (Result Board LevelFault))
-    → level_at listing n ≡ level → SolvesOn cap limit n level report → report.status ≡ 0 → ReplaysAsTold n bytes report
+    → level_at listing n ≡ level → ReportsOn (IsSolveOf cap limit) n level report → report.status ≡ 0 → ReplaysAsTold n bytes report
 at_level laws cap limit n bytes listing lists report None is told good =
     let bad : 1 ≡ 0 = sym (ap (λ (r : Report). r.status) told) ∙ good in absurd (omega (arith, bad))
 at_level laws cap limit n bytes listing lists report (Some (Err fault)) is told good =

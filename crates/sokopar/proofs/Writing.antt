@@ -1,9 +1,10 @@
 -- How a text is written, one part after the other.
 use Rattle.std.proofs.Common.{◌≡◌, ◌≤◌, List, [], ◌∷◌, ℕ, ◌++◌, length, take, drop, refl, sym, ap, ◌∙◌, subst, append_assoc, append-nil, take-append-drop}
+use Rattle.std.proofs.KnownBytes.{Appends-kept, Appends-nil, Appends-trans}
 use Rattle.std.specs.Io.KnownBytes.{Appends, Keeps}
-use Rattle.sokopar.specs.Ends.{Act, moved, failed, Seen, Pass, none, more}
+use Rattle.sokopar.specs.Ends.{moved, failed, Seen, Pass, none}
 use Rattle.sokopar.specs.Runs.{WritesWhole, WritesPart}
-use Rattle.sokopar.proofs.Acts.{pass_more, appends_none, appends_more, appends_kept}
+use Rattle.sokopar.proofs.Acts.{pass_more}
 
 -- a sink took the part of the text before what is left, in writes that each took some
 pub record Taken (old new : Seen) (text rest : List ℕ) : Type 0 where
@@ -14,7 +15,7 @@ pub record Taken (old new : Seen) (text rest : List ℕ) : Type 0 where
 
 -- nothing is written yet
 pub taken_none : (old : Seen) (text : List ℕ) → Taken old old text text
-taken_none old text = record { part = []; begins = refl; taken = none; holds = appends_none old.known }
+taken_none old text = record { part = []; begins = refl; taken = none; holds = Appends-nil old.known }
 
 -- a write more took the first bytes of what was left
 pub taken_more : (old mid new : Seen) (text rest left : List ℕ) (n : ℕ) → Taken old mid text rest → new.acts ≡ mid.acts ++ moved (take n rest) ∷ []
@@ -25,7 +26,7 @@ taken_more old mid new text rest left n before act holds some few is =
       part = before.part ++ take n rest;
       begins = before.begins ∙ ap (λ (l : List ℕ). before.part ++ l) cut ∙ sym (append_assoc before.part (take n rest) left);
       taken = pass_more old.acts mid.acts new.acts before.part (before.part ++ take n rest) rest n before.taken act refl some few;
-      holds = appends_more old.known mid.known new.known before.part (take n rest) before.holds holds;
+      holds = Appends-trans old.known mid.known new.known before.part (take n rest) before.holds holds;
     }
 
 -- nothing is left to write
@@ -45,23 +46,5 @@ taken_part old mid new text rest before act kept = record {
   begins = before.begins;
   taken = before.taken;
   last = act;
-  holds = appends_kept old.known mid.known new.known before.part before.holds kept;
-}
-
--- acts that moved bytes, and then more acts that moved more
-pass-join : (first mid last : List Act) (bytes more_bytes : List ℕ) → Pass first mid bytes → Pass mid last more_bytes → Pass first last (bytes ++ more_bytes)
-pass-join first mid _ bytes _ before none = let P : List ℕ → Type 0 = λ bs. Pass first mid bs in subst P (sym (append-nil bytes)) before
-pass-join first mid _ bytes _ before (more {acts} {bytes = so_far} part pass some) =
-    let P : List ℕ → Type 0 = λ bs. Pass first (acts ++ moved part ∷ []) bs in
-    subst P (append_assoc bytes so_far part) (more part (pass-join first mid acts bytes so_far before pass) some)
-
--- no text is written by no act
-pub wrote_none : (seen : Seen) → WritesWhole seen seen []
-wrote_none seen = record { taken = none; holds = appends_none seen.known }
-
--- a text is written, and then another one
-pub wrote_more : (old mid new : Seen) (text next : List ℕ) → WritesWhole old mid text → WritesWhole mid new next → WritesWhole old new (text ++ next)
-wrote_more old mid new text next first second = record {
-  taken = pass-join old.acts mid.acts new.acts text next first.taken second.taken;
-  holds = appends_more old.known mid.known new.known text next first.holds second.holds;
+  holds = Appends-kept old.known mid.known new.known before.part before.holds kept;
 }

@@ -4,7 +4,7 @@ use Rattle.sokopar.specs.Ends.{Seen}
 use Rattle.sokopar.specs.Report.{Report, IsWrittenOf, Written, WrittenOfTwo}
 use Rattle.sokopar.specs.Runs.{ReadsIfSome, ReadsWhole, Runs, RunsInTwo}
 use Rattle.sokopar.specs.declared.fault.RunFault.{RunFault}
-use Rattle.sokopar.specs.declared.fault.RunFault.TheVariants.{Read, Write, TooLong, OutOfMemory}
+use Rattle.sokopar.specs.declared.fault.RunFault.TheVariants.{Write}
 use Rattle.sokopar.specs.inside.Sending.{Sends, as_written}
 
 right : (lurd : Bool) (IsReport : Report → Type 0) (report : Report) → IsReport report
@@ -20,9 +20,7 @@ run_written lurd IsReport source read sink written bytes report (Ok status) whol
     (bytes, as_written lurd report, whole, right lurd (IsReport bytes) report is, sends.0, sends.1)
 run_written lurd IsReport source read sink written bytes report (Err Write) whole is sends =
     (bytes, as_written lurd report, whole, right lurd (IsReport bytes) report is, sends)
-run_written lurd IsReport source read sink written bytes report (Err Read) whole is sends = absurd sends
-run_written lurd IsReport source read sink written bytes report (Err TooLong) whole is sends = absurd sends
-run_written lurd IsReport source read sink written bytes report (Err OutOfMemory) whole is sends = absurd sends
+run_written lurd IsReport source read sink written bytes report (Err fault) whole is sends = absurd sends
 
 pub run_written_of_two : (lurd : Bool) (IsReport : List ℕ → Option (List ℕ) → Report → Type 0) (n : ℕ)
     (source read second second_read sink written : Seen) (bytes : List ℕ) (solution : Option (List ℕ))
@@ -36,9 +34,5 @@ run_written_of_two lurd IsReport n source read second second_read sink written b
 run_written_of_two lurd IsReport n source read second second_read sink written bytes solution report (Err Write) whole
     reads is sends =
     (bytes, solution, as_written lurd report, whole, reads, right lurd (IsReport bytes solution) report is, sends)
-run_written_of_two lurd IsReport n source read second second_read sink written bytes solution report (Err Read) whole
+run_written_of_two lurd IsReport n source read second second_read sink written bytes solution report (Err fault) whole
     reads is sends = absurd sends
-run_written_of_two lurd IsReport n source read second second_read sink written bytes solution report (Err TooLong) whole
-    reads is sends = absurd sends
-run_written_of_two lurd IsReport n source read second second_read sink written bytes solution report (Err OutOfMemory)
-    whole reads is sends = absurd sends

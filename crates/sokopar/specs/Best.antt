@@ -36,7 +36,7 @@ Finds wanted cap limit board NoneWithin = (most : ℕ) × (cap ≡ Some most) ×
 Finds wanted cap limit board Unsolvable = (cap ≡ None) × IsUnsolvable board
 Finds wanted cap limit board (Limit bound) = IsUndecided limit board bound × IsWithinCap cap bound
 
--- that a search ended at its limit; every solution has at least bound pushes
+-- the words for a search that ended at its limit: every solution has at least `bound` pushes
 abbrev pub undecided_words : ℕ → ℕ → List ℕ
 undecided_words limit bound =
     codes "limit " ++ decimal limit ++ codes " reached, at least " ++ decimal bound ++ codes " pushes"

@@ -1,5 +1,5 @@
 -- What finding solutions with the fewest pushes of the levels of a collection writes: a line for each level.
-use Rattle.std.specs.Prelude.{◌≡◌, ℕ, suc, ◌≤◌, Bool, true, false, List, [], ◌++◌, length}
+use Rattle.std.specs.Prelude.{◌≡◌, ℕ, suc, ◌≤◌, Bool, true, false, List, [], ◌∷◌, ◌++◌, length}
 use Rattle.std.specs.Prelude.{Result, Ok, Err, Option, Some, None, codes, decimal}
 use Rattle.grid.specs.Board.{Board}
 use Rattle.grid.specs.Lawful.{box_count}
@@ -8,12 +8,11 @@ use Rattle.grid.specs.declared.limits.TheConstants.{MAX_BOXES}
 use Rattle.lurd.specs.Text.{bytes_of}
 use Rattle.prover.specs.Fewest.{NoneHasFewer}
 use Rattle.sokopar.specs.Best.{Finds, outcome_words}
-use Rattle.sokopar.specs.Levels.{BeginsReportOnLevels, IsReportOnLevels}
-use Rattle.sokopar.specs.Levels.{count_of, is_optimal, is_undecided, is_unjudged, is_unsolved}
+use Rattle.sokopar.specs.Levels.{BeginsReportOnLevels, IsReportOnLevels, count_of}
 use Rattle.sokopar.specs.Listing.{Listed}
 use Rattle.sokopar.specs.Moves.{claim_kind, claim_verdict}
-use Rattle.sokopar.specs.Report.{fault_words, line}
-use Rattle.sokopar.specs.Table.{Row, boxes_of, head_of, row_line}
+use Rattle.sokopar.specs.Report.{fault_words}
+use Rattle.sokopar.specs.Table.{Row, boxes_of, head_of, level_line}
 use Rattle.sokopar.specs.declared.finding.Finding.{Finding}
 use Rattle.sokopar.specs.declared.finding.Finding.TheVariants.{Searched, TooManyBoxes, OutOfMemory, Faulty}
 use Rattle.sokopar.specs.declared.judgement.Counts.{Counts}
@@ -41,7 +40,7 @@ abbrev pub solution_words : BestOutcome → List ℕ
 solution_words (Least best) = codes "  " ++ bytes_of best.moves
 solution_words outcome = []
 
--- that a search ran out of memory; every solution has at least bound pushes
+-- the words for a search that ran out of memory: every solution has at least `bound` pushes
 abbrev pub starved_words : ℕ → List ℕ
 starved_words bound = codes "out of memory, at least " ++ decimal bound ++ codes " pushes"
 
@@ -102,15 +101,10 @@ row_of n listed finding = record {
   solution = letters_of finding;
 }
 
--- the line of level n with a finding, in a table or in words
-abbrev pub level_line : Bool → Option ℕ → ℕ → ℕ → Listed → Finding → List ℕ
-level_line true cap limit n listed finding = row_line (row_of n listed finding)
-level_line false cap limit n listed finding = line (decimal n ++ codes " " ++ finding_words cap limit finding)
-
 -- what the report has of level n with a finding
 abbrev pub reported_of : Bool → Option ℕ → ℕ → ℕ → Listed → Finding → Reported
 reported_of table cap limit n listed finding = record {
-  text = level_line table cap limit n listed finding;
+  text = level_line table (row_of n listed finding) (finding_words cap limit finding);
   kind = kind_of finding;
 }
 
@@ -120,6 +114,10 @@ IsFound table config n listed one =
     (finding : Finding) × IsFinding config.moves config.cap config.limit listed.board finding ×
     (one ≡ reported_of table config.cap config.limit n listed finding)
 
+-- a number and what it counts
+abbrev pub count_words : ℕ → List ℕ → List ℕ
+count_words n words = decimal n ++ words
+
 -- how levels without a solution are counted: under a cap these are the levels without a solution within the cap
 abbrev pub unsolved_words : Option ℕ → List ℕ
 unsolved_words None = codes "unsolvable"
@@ -128,16 +126,16 @@ unsolved_words (Some most) = codes "none within " ++ decimal most ++ codes " pus
 -- how many levels there are, and how many have a finding of each kind
 abbrev pub totals_words : Option ℕ → ℕ → ℕ → ℕ → ℕ → ℕ → List ℕ
 totals_words cap levels optimal unsolved undecided unjudged =
-    decimal levels ++ codes " levels, " ++ decimal optimal ++ codes " optimal, " ++ decimal unsolved ++ codes " " ++
-    unsolved_words cap ++ codes ", " ++ decimal undecided ++ codes " open, " ++ decimal unjudged ++ codes " not judged"
+    count_words levels (codes " levels, ") ++ count_words optimal (codes " optimal, ") ++
+    count_words unsolved (codes " ") ++ unsolved_words cap ++ codes ", " ++ count_words undecided (codes " open, ") ++
+    count_words unjudged (codes " not judged\n")
 
 -- the last line: the totals of some levels, except in a table
 abbrev pub totals_line : Bool → Option ℕ → List Reported → List ℕ
 totals_line true cap reported = []
 totals_line false cap reported =
-    line
-    (totals_words cap (length reported) (count_of is_optimal reported) (count_of is_unsolved reported)
-    (count_of is_undecided reported) (count_of is_unjudged reported))
+    totals_words cap (length reported) (count_of (kind.Optimal ∷ []) reported) (count_of (kind.Unsolved ∷ []) reported)
+    (count_of (kind.Open ∷ kind.OutOfMemory ∷ []) reported) (count_of (kind.NotJudged ∷ kind.CannotRead ∷ []) reported)
 
 -- the report of the levels of these bytes with numbers in the range of a request, with its settings
 abbrev pub IsCollectionReport : CollectionRequest → List ℕ → List (List ℕ) → ℕ → Type 0

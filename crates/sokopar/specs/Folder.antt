@@ -1,30 +1,29 @@
 -- What proving the solutions of a folder writes: a line for each level of a collection of which the folder has one.
-use Rattle.std.specs.Prelude.{◌≡◌, ℕ, Bool, true, false, List, [], ◌++◌, length, codes, decimal}
+use Rattle.std.specs.Prelude.{◌≡◌, ℕ, Bool, true, false, List, [], ◌∷◌, ◌++◌, length, codes}
 use Rattle.std.specs.Prelude.{Option, Some, None, Result, Ok, Err}
 use Rattle.grid.specs.Board.{Board}
 use Rattle.grid.specs.declared.fault.LevelFault.{LevelFault}
 use Rattle.lurd.specs.declared.verdict.Verdict.{Verdict}
 use Rattle.lurd.specs.declared.verdict.Verdict.TheVariants.{Unsolved}
+use Rattle.sokopar.specs.Collection.{count_words}
 use Rattle.sokopar.specs.Ends.{Seen}
-use Rattle.sokopar.specs.Levels.{BeginsReportOnLevels, IsReportOnLevels}
-use Rattle.sokopar.specs.Levels.{count_of, is_beaten, is_missing, is_optimal, is_undecided, is_unjudged}
+use Rattle.sokopar.specs.Levels.{BeginsReportOnLevels, IsReportOnLevels, count_of}
 use Rattle.sokopar.specs.Listing.{Listed}
 use Rattle.sokopar.specs.Moves.{claim_verdict}
 use Rattle.sokopar.specs.Proving.{IsJudgementOn, better_words, judgement_kind, judgement_words}
-use Rattle.sokopar.specs.Report.{line, verdict_words}
+use Rattle.sokopar.specs.Report.{verdict_words}
 use Rattle.sokopar.specs.Runs.{ReadsIfSome, Stops}
-use Rattle.sokopar.specs.Table.{Row, boxes_of, head_of, row_line}
+use Rattle.sokopar.specs.Table.{Row, boxes_of, head_of, level_line}
 use Rattle.sokopar.specs.declared.fault.RunFault.{RunFault}
 use Rattle.sokopar.specs.declared.fault.RunFault.TheVariants as run
 use Rattle.sokopar.specs.declared.judgement.Counts.{Counts}
 use Rattle.sokopar.specs.declared.judgement.Judgement.{Judgement}
 use Rattle.sokopar.specs.declared.judgement.Judgement.TheVariants.{Compared, TooManyBoxes, Failing}
 use Rattle.sokopar.specs.declared.judgement.Judgement.TheVariants.{CannotRead, OutOfMemory}
-use Rattle.sokopar.specs.declared.judgement.Known.{Known}
 use Rattle.sokopar.specs.declared.judgement.Known.TheVariants.{AtLeast}
 use Rattle.sokopar.specs.declared.judgement.Standing.TheVariants.{Optimal, Better, Undecided}
 use Rattle.sokopar.specs.declared.proving.SolutionsRequest.{SolutionsRequest}
-use Rattle.sokopar.specs.declared.reported.Kind.TheVariants.{Missing}
+use Rattle.sokopar.specs.declared.reported.Kind.TheVariants as kind
 use Rattle.sokopar.specs.declared.reported.Reported.{Reported}
 
 -- what is judged of a solution if reading it, or judging it, stopped for a fault
@@ -56,14 +55,9 @@ abbrev pub better_of : Judgement → Option Counts
 better_of (Compared given (Better letters pushes known)) = Some (record { pushes = pushes; moves = length letters })
 better_of judgement = None
 
--- the bound of a search for the fewest pushes that ended at its limit, as a better solution was found
-abbrev pub known_bound : Known → Option ℕ
-known_bound (AtLeast bound) = Some bound
-known_bound known = None
-
 -- the bound of a search for the fewest pushes that ended at its limit
 abbrev pub judgement_bound : Judgement → Option ℕ
-judgement_bound (Compared given (Better letters pushes known)) = known_bound known
+judgement_bound (Compared given (Better letters pushes (AtLeast bound))) = Some bound
 judgement_bound (Compared given (Undecided bound)) = Some bound
 judgement_bound judgement = None
 
@@ -81,26 +75,17 @@ judgement_row limit n listed judgement = record {
   solution = better_words [] [] judgement;
 }
 
--- its line, in a table or in words
-abbrev pub judgement_line : Bool → ℕ → ℕ → Listed → Judgement → List ℕ
-judgement_line true limit n listed judgement = row_line (judgement_row limit n listed judgement)
-judgement_line false limit n listed judgement =
-    line (decimal n ++ codes " " ++ judgement_words limit judgement ++ better_words (codes "  ") [] judgement)
-
 -- what the report has of level n with what is judged of its solution
 abbrev pub judged_of : SolutionsRequest → ℕ → Listed → Judgement → Reported
 judged_of request n listed judgement = record {
-  text = judgement_line request.table request.limit n listed judgement;
+  text = level_line request.table (judgement_row request.limit n listed judgement)
+      (judgement_words request.limit judgement ++ better_words (codes "  ") [] judgement);
   kind = judgement_kind judgement;
 }
 
--- what it has of a level without a solution: no line
+-- what the report has of a level without a solution: no line
 abbrev pub without_solution : Reported
-without_solution = record { text = []; kind = Missing }
-
--- a number and what it counts
-abbrev pub count_words : ℕ → List ℕ → List ℕ
-count_words n words = decimal n ++ words
+without_solution = record { text = []; kind = kind.Missing }
 
 -- how many levels there are, and how many have a solution of each kind
 abbrev pub solutions_words : ℕ → ℕ → ℕ → ℕ → ℕ → ℕ → List ℕ
@@ -113,8 +98,9 @@ solutions_words levels optimal beaten undecided unjudged missing =
 abbrev pub solutions_line : Bool → List Reported → List ℕ
 solutions_line true reported = []
 solutions_line false reported =
-    solutions_words (length reported) (count_of is_optimal reported) (count_of is_beaten reported)
-    (count_of is_undecided reported) (count_of is_unjudged reported) (count_of is_missing reported)
+    solutions_words (length reported) (count_of (kind.Optimal ∷ []) reported) (count_of (kind.Beaten ∷ []) reported)
+    (count_of (kind.Open ∷ kind.OutOfMemory ∷ []) reported) (count_of (kind.NotJudged ∷ kind.CannotRead ∷ []) reported)
+    (count_of (kind.Missing ∷ []) reported)
 
 -- what is judged of the solution in a file is right: that reading or judging it stopped, or what is judged of what was
 -- read. `seen` is what contracts see of a file

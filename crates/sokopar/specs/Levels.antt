@@ -1,5 +1,5 @@
 -- Reports with a line for each level of a collection.
-use Rattle.std.specs.Prelude.{◌≡◌, ℕ, suc, ◌+◌, ◌<◌, ◌≤◌, ◌==◌, if◌then◌else◌, Bool, true, false}
+use Rattle.std.specs.Prelude.{◌≡◌, ℕ, suc, ◌+◌, ◌<◌, ◌≤◌, ◌==◌, ◌||◌, if◌then◌else◌, Bool, false}
 use Rattle.std.specs.Prelude.{List, [], ◌∷◌, ◌++◌, length, map, count_by}
 use Rattle.std.specs.List.{AllZip}
 use Rattle.xsb.specs.Collection.{Found, IsCollection}
@@ -30,52 +30,25 @@ pub data AreReported (IsRight : ℕ → Listed → Reported → Type 0) (from to
 abbrev pub lines_of : List Reported → List (List ℕ)
 lines_of reported = map (λ one. one.text) reported
 
--- a solution with the fewest pushes was found, and no search ended at its limit
-abbrev pub is_optimal : Kind → Bool
-is_optimal Optimal = true
-is_optimal kind = false
+-- a number for each kind, by which two kinds are compared
+abbrev pub kind_number : Kind → ℕ
+kind_number Optimal = 0
+kind_number Unsolved = 1
+kind_number Beaten = 2
+kind_number Open = 3
+kind_number OutOfMemory = 4
+kind_number NotJudged = 5
+kind_number CannotRead = 6
+kind_number Missing = 7
 
--- there is no solution, or none within the cap
-abbrev pub is_unsolved : Kind → Bool
-is_unsolved Unsolved = true
-is_unsolved kind = false
+-- the kind is one of these
+abbrev pub is_one_of : List Kind → Kind → Bool
+is_one_of [] kind = false
+is_one_of (one ∷ kinds) kind = kind_number kind == kind_number one || is_one_of kinds kind
 
--- a given solution is not the best one
-abbrev pub is_beaten : Kind → Bool
-is_beaten Beaten = true
-is_beaten kind = false
-
--- a search ended at its limit or ran out of memory
-abbrev pub is_undecided : Kind → Bool
-is_undecided Open = true
-is_undecided OutOfMemory = true
-is_undecided kind = false
-
--- a search ran out of memory
-abbrev pub is_out_of_memory : Kind → Bool
-is_out_of_memory OutOfMemory = true
-is_out_of_memory kind = false
-
--- there was nothing to search for: the level has a fault or too many boxes, a given text does not solve it, or it cannot
--- be read
-abbrev pub is_unjudged : Kind → Bool
-is_unjudged NotJudged = true
-is_unjudged CannotRead = true
-is_unjudged kind = false
-
--- a given solution cannot be read
-abbrev pub is_unread : Kind → Bool
-is_unread CannotRead = true
-is_unread kind = false
-
--- there is no given solution
-abbrev pub is_missing : Kind → Bool
-is_missing Missing = true
-is_missing kind = false
-
--- how many levels have a kind
-abbrev pub count_of : (Kind → Bool) → List Reported → ℕ
-count_of is reported = count_by (λ one. is one.kind) reported
+-- how many levels have one of these kinds
+abbrev pub count_of : List Kind → List Reported → ℕ
+count_of kinds reported = count_by (λ one. is_one_of kinds one.kind) reported
 
 -- the exit status of one level
 abbrev pub kind_status : Kind → ℕ
@@ -90,9 +63,9 @@ kind_status kind = 1
 -- out of memory, else 3 if a given solution cannot be read, else 4 if a search ended at its limit, else 1
 abbrev pub worst_status : List Reported → ℕ
 worst_status reported =
-    if count_of is_optimal reported + count_of is_missing reported == length reported then 0 else if
-    count_of is_out_of_memory reported == 0 then
-    (if count_of is_unread reported == 0 then (if count_of is_undecided reported == 0 then 1 else 4) else 3) else 5
+    if count_of (Optimal ∷ []) reported + count_of (Missing ∷ []) reported == length reported then 0 else if
+    count_of (OutOfMemory ∷ []) reported == 0 then (if count_of (CannotRead ∷ []) reported == 0 then
+    (if count_of (Open ∷ OutOfMemory ∷ []) reported == 0 then 1 else 4) else 3) else 5
 
 -- the last line and the exit status of a report on levels from a number on, by the number of levels of the collection:
 -- that there is no level of this number, if there are fewer; else this line and this status

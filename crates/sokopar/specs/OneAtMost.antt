@@ -1,7 +1,7 @@
--- That there is at most one report of a kind.
+-- At most one report.
 use Rattle.std.specs.Prelude.{◌≡◌}
 use Rattle.sokopar.specs.Report.{Report}
 
--- two reports that are so are one: the same bytes and the same status
+-- any two reports for which `Is` holds have the same bytes and the same status
 abbrev pub IsOneAtMost : (Report → Type 0) → Type 0
 IsOneAtMost Is = (report other : Report) → Is report → Is other → other ≡ report

@@ -67,8 +67,8 @@ abbrev pub IsFailure : Verdict → Type 0
 IsFailure (Solved pushes moves) = ⊥
 IsFailure verdict = ⊤
 
--- what is judged of letters is right: how they compare if they solve the level and it has not too many boxes, that it
--- has too many, or the verdict if they do not solve it
+-- the judgement of letters is right: if they solve the level, how they compare, or that it has too many boxes;
+-- otherwise the verdict
 abbrev pub IsJudged : Bool → ℕ → Board → List Letter → Judgement → Type 0
 IsJudged wanted limit board letters (Compared given standing) =
     IsVerdict board letters (Solved given.pushes given.moves) × (box_count board ≤ MAX_BOXES) ×
@@ -78,13 +78,14 @@ IsJudged wanted limit board letters (TooManyBoxes given) =
 IsJudged wanted limit board letters (Failing verdict) = IsVerdict board letters verdict × IsFailure verdict
 IsJudged wanted limit board letters judgement = ⊥
 
--- what is judged of a text on a lawful level is right: what is judged of its letters, or its first fault
+-- the judgement of a text on a lawful level is right: that of its letters, or its first fault
 abbrev pub IsJudgement : Bool → ℕ → Board → List ℕ → Judgement → Type 0
 IsJudgement wanted limit board solution judgement =
     ((letters : List Letter) × IsText solution letters × IsJudged wanted limit board letters judgement) ⊎
     ((fault : LurdFault) × HasTextFault solution fault × (judgement ≡ BadText fault))
 
--- what is judged on a level, of a text that is read exactly where the level is lawful
+-- the judgement on a level is right: on a lawful level that of the text, which is read only then; else the level's
+-- fault
 abbrev pub IsJudgementOn : Bool → ℕ → Result Board LevelFault → Option (List ℕ) → Judgement → Type 0
 IsJudgementOn wanted limit (Ok board) text judgement =
     (solution : List ℕ) × (text ≡ Some solution) × IsJudgement wanted limit board solution judgement

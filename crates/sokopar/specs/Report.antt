@@ -134,7 +134,7 @@ verdict_words (verdict.Unsolved pushes moves) = codes "unsolved " ++ counts_word
 verdict_words (verdict.Blocked at) = codes "blocked at " ++ decimal at
 verdict_words (verdict.WrongCase at) = codes "wrong case at " ++ decimal at
 
--- its exit status
+-- the exit status of a verdict
 abbrev pub verdict_status : Verdict → ℕ
 verdict_status (verdict.Solved pushes moves) = 0
 verdict_status other = 1

@@ -54,6 +54,11 @@ row_line row =
     (place_cells row ++ word_cell row.verdict ++ counts_cells row.given ++ counts_cells row.found ++
     number_cell row.at_least ++ word_cell (without_tabs row.name) ++ word_cell row.solution)
 
+-- the line of a level in a table, or its number with these words
+abbrev pub level_line : Bool → Row → List ℕ → List ℕ
+level_line true row words = row_line row
+level_line false row words = line (decimal row.level ++ codes " " ++ words)
+
 -- the first line: the names of the columns
 abbrev pub table_head : List ℕ
 table_head =

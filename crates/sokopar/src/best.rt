@@ -1,14 +1,12 @@
 ghost use Rattle.std.specs.Prelude.{◌≡◌, ◌++◌, ◌≤◌, length, OnOk, IfOk};
 ghost use Rattle.sokopar.specs.Best.{IsBest, IsBestReport, outcome_report, outcome_words, undecided_words};
 ghost use Rattle.sokopar.specs.Report.{IsSearchOf};
-ghost use Rattle.sokopar.specs.inside.Parts.{FindsOn, none_words};
 
-use crate::listing::{Chosen, level_of};
 use crate::moves::put_best;
 use crate::outcome::{BestOutcome, search_best};
 use crate::proving::SearchConfig;
 use crate::report::Report;
-use crate::show::{fault_report, no_level};
+use crate::show::lawful_level;
 use crate::solve::{put_limit, too_many_boxes};
 use crate::text::Text;
 use grid::Level;
@@ -19,7 +17,7 @@ use xsb::MAX_FILE;
 
 /// Appends that no solution has as few pushes as a cap.
 pub(crate) fn put_none_within(text: &mut Text, cap: Option<u32>) -> Result<(), AllocError>
-    ensures { OnOk result (text.new ≡ text.old ++ none_words cap) }
+    ensures { OnOk result (text.new ≡ text.old ++ outcome_words cap 0 BestOutcome.NoneWithin) }
 {
     text.put(b"none within ")?;
     if let Some(most) = cap {
@@ -73,15 +71,14 @@ fn outcome_report(
             text.put(b"\n")?;
             best.claim.status()
         }
-        BestOutcome::NoneWithin => 1,
-        BestOutcome::Unsolvable => 1,
+        BestOutcome::NoneWithin | BestOutcome::Unsolvable => 1,
         BestOutcome::Limit { .. } => 4,
     };
     Ok(Report::new(text, status))
 }
 
-#[tactic(auto, using(crate::proofs::Judging::of_best, crate::proofs::Judging::of_search_fault))]
 /// The report of a lawful level.
+#[tactic(auto, using(crate::proofs::Judging::of_best, crate::proofs::Judging::of_search_fault))]
 fn best_of<R: Threads + Sync, P: Progress>(
     rt: &R,
     alloc: Global,
@@ -98,26 +95,8 @@ fn best_of<R: Threads + Sync, P: Progress>(
     }
 }
 
-/// The report of level N.
-fn best_report<R: Threads + Sync, P: Progress>(
-    rt: &R,
-    alloc: Global,
-    chosen: &Chosen,
-    number: u32,
-    config: SearchConfig,
-    progress: &mut P,
-) -> Result<Report, AllocError>
-    requires { 1 ≤ number }
-    ensures { IfOk result (λ report. FindsOn config.moves config.cap config.limit number chosen.now report) }
-{
-    match chosen {
-        None => no_level(alloc, number),
-        Some(Err(fault)) => fault_report(alloc, *fault),
-        Some(Ok(level)) => best_of(rt, alloc, level, config, progress),
-    }
-}
-
 /// The report of level N of a collection.
+#[tactic(auto, using(crate::proofs::Reporting::on_level))]
 pub(crate) fn best_in<R: Threads + Sync, P: Progress>(
     rt: &R,
     alloc: Global,
@@ -130,6 +109,8 @@ pub(crate) fn best_in<R: Threads + Sync, P: Progress>(
     requires bound { length bytes.now ≤ MAX_FILE }
     ensures { IfOk result (λ report. IsBestReport config.moves config.cap config.limit number bytes.now report) }
 {
-    let chosen = level_of(alloc, bytes, number)?;
-    best_report(rt, alloc, &chosen, number, config, progress)
+    match lawful_level(alloc, bytes, number)? {
+        Ok(level) => best_of(rt, alloc, &level, config, progress),
+        Err(report) => Ok(report),
+    }
 }

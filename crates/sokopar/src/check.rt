@@ -1,7 +1,7 @@
-ghost use Rattle.std.specs.Prelude.{◌≡◌, ◌≤◌, ◌++◌, length, codes, decimal, OnOk, IfOk};
+ghost use Rattle.std.specs.Prelude.{◌≡◌, ◌+◌, ◌≤◌, ◌++◌, Ok, cond, length, codes, decimal, OnOk, IfOk};
 ghost use Rattle.sokopar.specs.Entries.{listed_of};
-ghost use Rattle.sokopar.specs.Report.{fault_words, named, line, check_line, IsCheckReport};
-ghost use Rattle.sokopar.specs.inside.Parts.{is_good, level_words};
+ghost use Rattle.sokopar.specs.Report.{fault_words, judged_words, named, line, check_line, IsCheckReport};
+ghost use Rattle.sokopar.specs.inside.Parts.{is_good};
 
 use crate::report::Report;
 use crate::text::Text;
@@ -32,7 +32,7 @@ pub(crate) fn put_fault(text: &mut Text, fault: LevelFault) -> Result<(), AllocE
 
 /// Appends the words of a lawful level, given its board.
 fn put_level(text: &mut Text, board: &Board) -> Result<(), AllocError>
-    ensures { OnOk result (text.new ≡ text.old ++ level_words board.now) }
+    ensures { OnOk result (text.new ≡ text.old ++ judged_words (Ok board.now)) }
 {
     text.put(b"ok ")?;
     text.put_number(board.rows())?;
@@ -70,11 +70,12 @@ pub(crate) fn put_line(text: &mut Text, number: usize, entry: &BoardEntry) -> Re
     text.put(b"\n")
 }
 
-/// Whether a board is a lawful level.
-pub(crate) fn is_good(entry: &BoardEntry) -> bool
-    ensures { result ≡ is_good (listed_of entry.now) }
+/// The number of lawful levels with one level more.
+pub(crate) fn good_with(good: usize, entry: &BoardEntry) -> usize
+    requires { good ≤ MAX_FILE }
+    ensures { result ≡ cond (is_good (listed_of entry.now)) (good + 1) good }
 {
-    entry.board.is_ok()
+    if entry.board.is_ok() { good + 1 } else { good }
 }
 
 /// Appends the line of totals.
@@ -104,9 +105,7 @@ pub(crate) fn check_report(alloc: Global, bytes: &[u8]) -> Result<Report, AllocE
             break;
         };
         levels += 1;
-        if is_good(&entry) {
-            good += 1;
-        }
+        good = good_with(good, &entry);
         put_line(&mut text, levels, &entry)?;
     }
     put_totals(&mut text, levels, good)?;

@@ -4,7 +4,6 @@ ghost use Rattle.sokopar.specs.Collection.{BeginsCollectionReport, IsCollectionR
 ghost use Rattle.sokopar.specs.Collection.{finding_words, reported_of, totals_line};
 ghost use Rattle.sokopar.specs.Entries.{entry_listed};
 ghost use Rattle.sokopar.specs.Report.{line};
-ghost use Rattle.sokopar.specs.Table.{head_of};
 ghost use Rattle.sokopar.specs.inside.Sending.{SendsByLine};
 
 use crate::fault::RunFault;
@@ -15,7 +14,6 @@ use crate::proving::{CollectionRequest, SearchConfig};
 use crate::reported::Reported;
 use crate::rows::put_finding_row;
 use crate::sink::Sink;
-use crate::table::head_of;
 use crate::text::Text;
 use crate::totals::{Totals, put_totals};
 use crate::watch::Watch;
@@ -39,7 +37,7 @@ fn put_line(
     text.put(b"\n")
 }
 
-/// What the report has of a level with a finding.
+/// The report's part on a level with a finding.
 fn reported_of(
     alloc: Global,
     table: bool,
@@ -71,13 +69,7 @@ struct Searcher {
 impl Judge for Searcher {
     ghost is_right = { λ it. IsFound it.table it.config };
 
-    ghost first_line = { λ it. head_of it.table };
-
     ghost last_line = { λ it. totals_line it.table it.config.cap };
-
-    fn first(&self) -> &'static [u8] {
-        head_of(self.table)
-    }
 
     fn judge<R: Threads + Sync, P: Watch>(
         &self,
@@ -123,5 +115,5 @@ pub(crate) fn send_collection<R: Threads + Sync, P: Watch, K: Sink>(
         config,
     } = request;
     let searcher = Searcher { table, config };
-    send_report(rt, &searcher, alloc, bytes, from, to, watch, sink)
+    send_report(rt, &searcher, alloc, bytes, table, from, to, watch, sink)
 }

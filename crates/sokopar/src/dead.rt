@@ -1,13 +1,11 @@
 ghost use Rattle.std.specs.Prelude.{◌≡◌, ◌==◌, ◌++◌, ◌<◌, ◌≤◌, OnOk, IfOk, length, flat_map};
 ghost use Rattle.grid.specs.Lawful.{row_count};
 ghost use Rattle.sokopar.specs.DeadMap.{IsMark, AreMarks, IsMapOf, IsDeadReport, marked_row};
-ghost use Rattle.sokopar.specs.inside.Parts.{MapsOn};
 ghost use Rattle.xsb.specs.Boards.{cut_end};
 ghost use Rattle.xsb.specs.Written.{rows_from};
 
-use crate::listing::{Chosen, level_of};
 use crate::report::Report;
-use crate::show::{fault_report, no_level};
+use crate::show::lawful_level;
 use crate::text::Text;
 use doom::Dead;
 use grid::{Level, Square};
@@ -30,8 +28,8 @@ pub(crate) fn mark_of(level: &Level, dead: &Dead, square: Square) -> u8
     }
 }
 
-#[tactic(auto, using(crate::proofs::Maps::marks_all))]
 /// The bytes of the squares of a level, in order.
+#[tactic(auto, using(crate::proofs::Maps::marks_all))]
 fn marks_of(alloc: Global, level: &Level) -> Result<Vec<u8>, AllocError>
     ensures { IfOk result (λ marks. AreMarks level.now marks.items) }
 {
@@ -94,24 +92,15 @@ fn map_of(alloc: Global, level: &Level) -> Result<Report, AllocError>
     Ok(Report::new(text, 0))
 }
 
-/// The report of the dead squares of level N.
-fn dead_report(alloc: Global, chosen: &Chosen, number: u32) -> Result<Report, AllocError>
-    requires { 1 ≤ number }
-    ensures { IfOk result (λ report. MapsOn number chosen.now report) }
-{
-    match chosen {
-        None => no_level(alloc, number),
-        Some(Err(fault)) => fault_report(alloc, *fault),
-        Some(Ok(level)) => map_of(alloc, level),
-    }
-}
-
 /// The report of the dead squares of level N of a collection.
+#[tactic(auto, using(crate::proofs::Reporting::on_level))]
 pub(crate) fn dead_in(alloc: Global, bytes: &[u8], number: u32) -> Result<Report, AllocError>
     requires number { 1 ≤ number }
     requires bound { length bytes.now ≤ MAX_FILE }
     ensures { IfOk result (λ report. IsDeadReport number bytes.now report) }
 {
-    let chosen = level_of(alloc, bytes, number)?;
-    dead_report(alloc, &chosen, number)
+    match lawful_level(alloc, bytes, number)? {
+        Ok(level) => map_of(alloc, &level),
+        Err(report) => Ok(report),
+    }
 }

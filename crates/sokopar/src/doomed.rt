@@ -1,4 +1,4 @@
-//! What is found against a lawful level.
+//! The remark on a lawful level.
 ghost use Rattle.std.specs.Prelude.{◌≡◌, ℕ, ◌<◌, [], true, length, IfOk, MatchOption};
 ghost use Rattle.doom.specs.Deadlocks.{IsDead, IsFrozen};
 ghost use Rattle.grid.specs.Squares.{Squares, contains};
@@ -90,7 +90,7 @@ fn frozen_part(
     Ok(Some(few))
 }
 
-/// What is found against a lawful level with these boxes.
+/// The remark on a lawful level with these boxes.
 pub(crate) fn remark_of_level(
     alloc: Global,
     level: &Level,

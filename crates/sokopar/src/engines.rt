@@ -19,13 +19,13 @@ use std::alloc::Global;
 use std::sync::Wait;
 use std::thread::Threads;
 
-#[tactic(auto, using(crate::proofs::Reading::stops_after))]
 /// Checks a collection: writes a line for each level, and the totals. Returns the exit status: 0 if each level is
 /// lawful, otherwise 1.
 ///
 /// Fails with [`RunFault::Read`] if a read fails, with [`RunFault::TooLong`] for more than [`MAX_FILE`](xsb::MAX_FILE)
 /// bytes, and with [`RunFault::OutOfMemory`]; then it has written nothing. Fails with [`RunFault::Write`] if a write
 /// fails; then it has written a beginning of the report.
+#[tactic(auto, using(crate::proofs::Reading::stops_after))]
 pub fn run_check<S: Source, K: Sink>(
     alloc: Global,
     source: &mut S,
@@ -38,9 +38,9 @@ pub fn run_check<S: Source, K: Sink>(
     report.send(sink)
 }
 
-#[tactic(auto, using(crate::proofs::Reading::stops_after))]
-/// Shows a level of a collection, counted from 1, in plain rows. Returns the exit status: 0 if there is such a level
+/// Shows the level with a number, counted from 1, in plain rows. Returns the exit status: 0 if there is such a level
 /// and it is lawful, otherwise 1. The faults are those of [`run_check`].
+#[tactic(auto, using(crate::proofs::Reading::stops_after))]
 pub fn run_show<S: Source, K: Sink>(
     alloc: Global,
     source: &mut S,
@@ -56,9 +56,9 @@ pub fn run_show<S: Source, K: Sink>(
     report.send(sink)
 }
 
-#[tactic(auto, using(crate::proofs::Reading::stops_after))]
 /// Shows walls, goals and dead squares of a level of a collection, counted from 1. Returns the exit status: 0 if there
 /// is such a level and it is lawful, otherwise 1. The faults are those of [`run_check`].
+#[tactic(auto, using(crate::proofs::Reading::stops_after))]
 pub fn run_dead<S: Source, K: Sink>(
     alloc: Global,
     source: &mut S,
@@ -74,10 +74,10 @@ pub fn run_dead<S: Source, K: Sink>(
     report.send(sink)
 }
 
-#[tactic(auto, using(crate::proofs::Reading::stops_after))]
 /// Replays a solution in LURD text on a level of a collection, counted from 1. Returns the exit status: 0 if the
 /// solution solves the level, otherwise 1. It reads the collection first, and the solution only if the level is lawful.
 /// The faults are those of [`run_check`].
+#[tactic(auto, using(crate::proofs::Reading::stops_after))]
 pub fn run_replay<S: Source, T: Source, K: Sink>(
     alloc: Global,
     source: &mut S,
@@ -130,9 +130,9 @@ pub struct SolveRequest {
     pub lurd: bool,
 }
 
-#[tactic(auto, using(crate::proofs::Reading::stops_after, crate::proofs::Written::run_written))]
 /// Solves a level as [`run_solve`] does, and calls a gate after each event of a worker: the gate decides whether that
 /// worker goes on. The report is the same for every gate.
+#[tactic(auto, using(crate::proofs::Reading::stops_after, crate::proofs::Written::run_written))]
 pub fn run_solve_with<R: Threads + Wait + Sync, S: Source, G: Gate + Sync, K: Sink>(
     rt: &R,
     alloc: Global,

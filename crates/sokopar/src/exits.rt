@@ -4,18 +4,16 @@ ghost use Rattle.grid.specs.Board.{is_wall, next, player_cell};
 ghost use Rattle.grid.specs.Lawful.{InRoom};
 ghost use Rattle.grid.specs.Squares.{places_from};
 ghost use Rattle.sokopar.specs.Explaining.{IsExit};
-ghost use Rattle.sokopar.specs.inside.Explaining.{AreInRoom, Looks, board_in};
+ghost use Rattle.sokopar.specs.inside.Explaining.{AreBounded, AreInRoom, Looks, board_in};
 
-use grid::{Dir, MAX_COLS, Square};
+use grid::{Dir, Square};
 use std::alloc::{AllocError, Global};
 use xsb::BoardRows;
 
 /// The square next to a square of a board; the number of cells where the grid ends.
 #[tactic(auto, unfolding(grid::specs::Board::next))]
 fn next_to(rows: &BoardRows, square: Square, dir: Dir) -> usize
-    requires columns { 1 ≤ rows.now.cols }
-    requires wide { rows.now.cols ≤ MAX_COLS }
-    requires bound { length rows.now.cells.items ≤ 65535 }
+    requires bounds { AreBounded rows.now }
     requires inside { square < length rows.now.cells.items }
     ensures { result ≡ next (board_in rows.now) square dir }
 {
@@ -78,9 +76,7 @@ fn look_round(
     pending: &mut Vec<Square>,
     square: Square,
 ) -> Result<bool, AllocError>
-    requires columns { 1 ≤ rows.now.cols }
-    requires wide { rows.now.cols ≤ MAX_COLS }
-    requires bound { length rows.now.cells.items ≤ 65535 }
+    requires bounds { AreBounded rows.now }
     requires inside { square < length rows.now.cells.items }
     requires room { InRoom (board_in rows.now) square }
     requires pending { AreInRoom (board_in rows.now) pending.old.items }
@@ -99,9 +95,7 @@ fn look_round(
 
 /// The first of the pending squares beside which the grid ends; looks at the squares next to each.
 fn exit_from(alloc: Global, rows: &BoardRows, player: Square) -> Result<Option<Square>, AllocError>
-    requires columns { 1 ≤ rows.now.cols }
-    requires wide { rows.now.cols ≤ MAX_COLS }
-    requires bound { length rows.now.cells.items ≤ 65535 }
+    requires bounds { AreBounded rows.now }
     requires inside { player < length rows.now.cells.items }
     requires room { InRoom (board_in rows.now) player }
     ensures { IfOk result (λ exit. IfSome exit (λ q. IsExit (board_in rows.now) q)) }
@@ -126,9 +120,7 @@ pub(crate) fn exit_of(
     rows: &BoardRows,
     players: &[Square],
 ) -> Result<Option<Square>, AllocError>
-    requires columns { 1 ≤ rows.now.cols }
-    requires wide { rows.now.cols ≤ MAX_COLS }
-    requires bound { length rows.now.cells.items ≤ 65535 }
+    requires bounds { AreBounded rows.now }
     requires players { players.now ≡ places_from player_cell 0 rows.now.cells.items }
     ensures { IfOk result (λ exit. IfSome exit (λ q. IsExit (board_in rows.now) q)) }
 {

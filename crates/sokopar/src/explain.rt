@@ -1,19 +1,18 @@
 //! Explaining the levels of a collection: where and why each is faulty or cannot be solved.
-ghost use Rattle.std.specs.Prelude.{◌≡◌, ℕ, suc, ◌+◌, ◌≤◌, ◌++◌, ◌∷◌, [], List, Option, cond, length, IfOk, OnOk, true, false};
+ghost use Rattle.std.specs.Prelude.{◌≡◌, ℕ, suc, ◌≤◌, ◌++◌, ◌∷◌, [], List, Option, length, IfOk, OnOk, true, false};
 ghost use Rattle.sokopar.specs.Entries.{listed_of};
-ghost use Rattle.sokopar.specs.Explaining.{Explains, IsExplainReport, IsTrueOf, excess_words, explained, is_drawn};
+ghost use Rattle.sokopar.specs.Explaining.{IsExplainReport, IsTrueOf, excess_words, explained, is_drawn};
 ghost use Rattle.sokopar.specs.Explaining.{is_quiet, is_wanted};
 ghost use Rattle.sokopar.specs.Listing.{Listed};
 ghost use Rattle.sokopar.specs.Report.{check_line, good_count};
 ghost use Rattle.sokopar.specs.declared.remark.Remark.{Remark};
-ghost use Rattle.sokopar.specs.inside.Explaining.{HaveBroken, board_in};
+ghost use Rattle.sokopar.specs.inside.Explaining.{AreBounded, HaveBroken, board_in};
 ghost use Rattle.sokopar.specs.inside.Pages.{IsPage, IsSourceOf, Tells};
-ghost use Rattle.sokopar.specs.inside.Parts.{is_good as good_board};
 ghost use Rattle.xsb.specs.Collection.{Found, IsJudged};
 ghost use Rattle.xsb.specs.Entries.{IsBoardEntry};
 ghost use Rattle.xsb.specs.inside.Sources.{HasSource};
 
-use crate::check::{is_good, put_line, put_totals};
+use crate::check::{good_with, put_line, put_totals};
 use crate::doomed::remark_of_level;
 use crate::faulty::{Kind, remark_of_fault, squares_with};
 use crate::picture::put_drawn;
@@ -22,7 +21,7 @@ use crate::report::Report;
 use crate::sentences::{put_broken, put_excess, put_remark};
 use crate::show::no_level;
 use crate::text::Text;
-use grid::{Level, LevelFault, MAX_COLS};
+use grid::{Level, LevelFault};
 use std::alloc::{AllocError, Global};
 use xsb::{
     BoardEntry, BoardRows, BoardSource, BrokenRow, BrokenRows, Collection, Excess, MAX_FILE,
@@ -76,7 +75,8 @@ fn put_gap(
     shown: bool,
 ) -> Result<(), AllocError>
     ensures { (bytes : List ℕ) (wanted : Option ℕ) (listing : List Listed) →
-        IsPage bytes wanted listing page.old broken.old → OnOk result (IsPage bytes wanted listing page.new broken.new) }
+        IsPage bytes wanted listing page.old broken.old →
+        OnOk result (IsPage bytes wanted listing page.new broken.new) }
 {
     'rows: while let Some(row) = broken.first {
         if row.line >= line {
@@ -100,15 +100,13 @@ fn head_of(alloc: Global, number: usize, entry: &BoardEntry) -> Result<Text, All
     Ok(head)
 }
 
-/// What is found against a level.
+/// The remark on a level.
 fn remark_of(
     alloc: Global,
     board: &Result<Level, LevelFault>,
     rows: &BoardRows,
 ) -> Result<Remark, AllocError>
-    requires columns { 1 ≤ rows.now.cols }
-    requires wide { rows.now.cols ≤ MAX_COLS }
-    requires bound { length rows.now.cells.items ≤ 65535 }
+    requires bounds { AreBounded rows.now }
     requires judged { IsJudged (board_in rows.now) board.now }
     ensures { IfOk result (λ remark. IsTrueOf (board_in rows.now) remark) }
 {
@@ -148,8 +146,7 @@ fn put_found(
     remark: &Remark,
     wanted: Option<u32>,
 ) -> Result<(), AllocError>
-    requires columns { 1 ≤ rows.now.cols }
-    requires bound { length rows.now.cells.items ≤ 65535 }
+    requires bounds { AreBounded rows.now }
     requires judged { IsJudged (board_in rows.now) board.now }
     ensures { (n : ℕ) (listed : Listed) → head.now ≡ check_line n listed → board.now ≡ listed.board →
         OnOk result (Tells wanted n listed (board_in rows.now) rows.now.places.items remark.now page.old page.new) }
@@ -175,9 +172,7 @@ fn put_judged(
     rows: &BoardRows,
     wanted: Option<u32>,
 ) -> Result<(), AllocError>
-    requires columns { 1 ≤ rows.now.cols }
-    requires wide { rows.now.cols ≤ MAX_COLS }
-    requires bound { length rows.now.cells.items ≤ 65535 }
+    requires bounds { AreBounded rows.now }
     requires judged { IsJudged (board_in rows.now) entry.board }
     ensures { (n : ℕ) → head.now ≡ check_line n (listed_of entry) →
         OnOk result ((remark : Remark) × IsTrueOf (board_in rows.now) remark ×
@@ -200,49 +195,7 @@ fn put_large(page: &mut Page, head: &Text, excess: Excess) -> Result<(), AllocEr
     Ok(())
 }
 
-/// Appends what is written of a level that is wanted.
-fn put_wanted(
-    alloc: Global,
-    page: &mut Page,
-    number: usize,
-    source: BoardSource,
-    wanted: Option<u32>,
-) -> Result<(), AllocError>
-    requires { (found : Found) × IsSourceOf source found }
-    ensures { (bytes : List ℕ) (found : Found) (listing : List Listed) → number ≡ suc (length listing) →
-        is_wanted wanted number ≡ true → IsBoardEntry source.entry found → HasSource bytes found source.rows →
-        Explains bytes wanted listing page.old.text page.old.sound →
-        OnOk result (Explains bytes wanted (listing ++ listed_of source.entry ∷ []) page.new.text page.new.sound) }
-{
-    let BoardSource { entry, rows } = source;
-    let head = head_of(alloc, number, &entry)?;
-    match rows {
-        Ok(rows) => put_judged(alloc, page, &head, entry, &rows, wanted),
-        Err(excess) => put_large(page, &head, excess),
-    }
-}
-
-/// Appends what is written of a level.
-fn put_level(
-    alloc: Global,
-    page: &mut Page,
-    number: usize,
-    source: BoardSource,
-    wanted: Option<u32>,
-) -> Result<(), AllocError>
-    requires { (found : Found) × IsSourceOf source found }
-    ensures { (bytes : List ℕ) (found : Found) (listing : List Listed) → number ≡ suc (length listing) →
-        IsBoardEntry source.entry found → HasSource bytes found source.rows →
-        Explains bytes wanted listing page.old.text page.old.sound →
-        OnOk result (Explains bytes wanted (listing ++ listed_of source.entry ∷ []) page.new.text page.new.sound) }
-{
-    if !is_wanted(wanted, number) {
-        return Ok(());
-    }
-    put_wanted(alloc, page, number, source, wanted)
-}
-
-/// Appends what is written of the gap before a level, and of the level.
+/// Appends what is written of the gap before a level, and of the level if it is wanted.
 fn put_next(
     alloc: Global,
     page: &mut Page,
@@ -257,21 +210,17 @@ fn put_next(
         IsPage bytes wanted listing page.old broken.old →
         OnOk result (IsPage bytes wanted (listing ++ listed_of source.entry ∷ []) page.new broken.new) }
 {
-    put_gap(
-        page,
-        broken,
-        source.entry.first_line,
-        is_beside(wanted, number),
-    )?;
-    put_level(alloc, page, number, source, wanted)
-}
-
-/// The number of lawful levels with one level more.
-fn good_with(good: usize, entry: &BoardEntry) -> usize
-    requires { good ≤ MAX_FILE }
-    ensures { result ≡ cond (good_board (listed_of entry.now)) (good + 1) good }
-{
-    if is_good(entry) { good + 1 } else { good }
+    let shown = is_beside(wanted, number);
+    put_gap(page, broken, source.entry.first_line, shown)?;
+    if !is_wanted(wanted, number) {
+        return Ok(());
+    }
+    let BoardSource { entry, rows } = source;
+    let head = head_of(alloc, number, &entry)?;
+    match rows {
+        Ok(rows) => put_judged(alloc, page, &head, entry, &rows, wanted),
+        Err(excess) => put_large(page, &head, excess),
+    }
 }
 
 /// The report of what was written.
@@ -311,10 +260,8 @@ pub(crate) fn explain_in(
         unreachable!();
     };
     let mut broken = broken_of(bytes);
-    let mut page = Page {
-        text: Text::new(alloc),
-        sound: true,
-    };
+    let text = Text::new(alloc);
+    let mut page = Page { text, sound: true };
     let mut levels = 0;
     let mut good = 0;
     'boards: loop {
@@ -325,11 +272,7 @@ pub(crate) fn explain_in(
         good = good_with(good, &source.entry);
         put_next(alloc, &mut page, &mut broken, levels, source, wanted)?;
     }
-    put_gap(
-        &mut page,
-        &mut broken,
-        u32::MAX,
-        is_beside(wanted, levels + 1),
-    )?;
+    let shown = is_beside(wanted, levels + 1);
+    put_gap(&mut page, &mut broken, u32::MAX, shown)?;
     report_of(alloc, page, levels, good, wanted)
 }

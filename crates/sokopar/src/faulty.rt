@@ -1,12 +1,12 @@
-//! What is found against a faulty board.
+//! The remark on a faulty board.
 ghost use Rattle.std.specs.Prelude.{◌≡◌, ◌≤◌, length, IfOk};
 ghost use Rattle.grid.specs.Squares.{places_from};
 ghost use Rattle.sokopar.specs.Explaining.{IsTrueOf};
-ghost use Rattle.sokopar.specs.inside.Explaining.{board_in, is_kind};
+ghost use Rattle.sokopar.specs.inside.Explaining.{AreBounded, board_in, is_kind};
 
 use crate::exits::exit_of;
 use crate::remark::Remark;
-use grid::{Cell, LevelFault, MAX_COLS, Square};
+use grid::{Cell, LevelFault, Square};
 use std::alloc::{AllocError, Global};
 use xsb::BoardRows;
 
@@ -47,37 +47,25 @@ pub(crate) fn squares_with(
     Ok(squares)
 }
 
-/// What is found against a faulty board.
+/// The remark on a faulty board.
 pub(crate) fn remark_of_fault(
     alloc: Global,
     fault: LevelFault,
     rows: &BoardRows,
 ) -> Result<Remark, AllocError>
-    requires columns { 1 ≤ rows.now.cols }
-    requires wide { rows.now.cols ≤ MAX_COLS }
-    requires bound { length rows.now.cells.items ≤ 65535 }
+    requires { AreBounded rows.now }
     ensures { IfOk result (λ remark. IsTrueOf (board_in rows.now) remark) }
 {
-    if is_unequal(fault) {
+    if matches!(fault, LevelFault::NoBox | LevelFault::Counts { .. }) {
         let boxes = squares_with(alloc, Kind::Box, &rows.cells)?;
         let goals = squares_with(alloc, Kind::Goal, &rows.cells)?;
         return Ok(Remark::Unequal { boxes, goals });
     }
     let players = squares_with(alloc, Kind::Player, &rows.cells)?;
-    if is_open(fault) {
+    if matches!(fault, LevelFault::Open) {
         if let Some(exit) = exit_of(alloc, rows, players.as_slice())? {
             return Ok(Remark::Exit(exit));
         }
     }
     Ok(Remark::Players(players))
-}
-
-/// Whether it is the fault that the player gets out.
-fn is_open(fault: LevelFault) -> bool {
-    matches!(fault, LevelFault::Open)
-}
-
-/// Whether the boxes and the goals are the fault.
-fn is_unequal(fault: LevelFault) -> bool {
-    matches!(fault, LevelFault::NoBox | LevelFault::Counts { .. })
 }

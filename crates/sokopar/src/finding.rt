@@ -12,7 +12,7 @@ use prover::{Progress, SearchFault};
 use std::alloc::{AllocError, Global};
 use std::thread::Threads;
 
-/// What is found of a level of a collection.
+/// The finding on a level of a collection.
 #[derive(Drop)]
 pub enum Finding {
     /// The outcome of a search.
@@ -32,18 +32,16 @@ impl Finding {
     {
         match self {
             Finding::Searched(BestOutcome::Least(best)) => best.claim.kind(),
-            Finding::Searched(BestOutcome::NoneWithin) => Kind::Unsolved,
-            Finding::Searched(BestOutcome::Unsolvable) => Kind::Unsolved,
+            Finding::Searched(BestOutcome::NoneWithin | BestOutcome::Unsolvable) => Kind::Unsolved,
             Finding::Searched(BestOutcome::Limit { .. }) => Kind::Open,
-            Finding::TooManyBoxes => Kind::NotJudged,
+            Finding::TooManyBoxes | Finding::Faulty(_) => Kind::NotJudged,
             Finding::OutOfMemory { .. } => Kind::OutOfMemory,
-            Finding::Faulty(_) => Kind::NotJudged,
         }
     }
 }
 
+/// The finding on a lawful level.
 #[tactic(auto, using(crate::proofs::Judging::found_on, crate::proofs::Judging::of_search_fault))]
-/// What is found of a lawful level.
 fn find_on<R: Threads + Sync, P: Progress>(
     rt: &R,
     alloc: Global,
@@ -60,7 +58,7 @@ fn find_on<R: Threads + Sync, P: Progress>(
     }
 }
 
-/// What is found of a board.
+/// The finding on a board.
 pub(crate) fn find<R: Threads + Sync, P: Progress>(
     rt: &R,
     alloc: Global,
@@ -85,9 +83,7 @@ fn put_solution(text: &mut Text, outcome: &BestOutcome) -> Result<(), AllocError
             text.put(b"  ")?;
             text.put_letters(&best.moves)
         }
-        BestOutcome::NoneWithin => Ok(()),
-        BestOutcome::Unsolvable => Ok(()),
-        BestOutcome::Limit { .. } => Ok(()),
+        _ => Ok(()),
     }
 }
 

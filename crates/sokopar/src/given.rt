@@ -6,7 +6,6 @@ ghost use Rattle.sokopar.specs.Folder.{BeginsSolutionsReport, IsJudgedFrom, IsPr
 ghost use Rattle.sokopar.specs.Folder.{judged_of, solutions_line, stopped_by};
 ghost use Rattle.sokopar.specs.Proving.{better_words, judgement_words};
 ghost use Rattle.sokopar.specs.Report.{line};
-ghost use Rattle.sokopar.specs.Table.{head_of};
 ghost use Rattle.sokopar.specs.inside.Sending.{SendsByLine};
 
 use crate::fault::RunFault;
@@ -20,7 +19,6 @@ use crate::reported::{Kind, Reported};
 use crate::rows::put_judgement_row;
 use crate::sink::Sink;
 use crate::source::Source;
-use crate::table::head_of;
 use crate::text::Text;
 use crate::totals::{Totals, put_solutions};
 use crate::watch::Watch;
@@ -46,7 +44,7 @@ fn put_line(
     text.put(b"\n")
 }
 
-/// What the report has of a level with what is judged of its solution.
+/// The report's part on a level, with the judgement of its solution.
 fn judged_of(
     alloc: Global,
     number: u32,
@@ -66,7 +64,7 @@ fn judged_of(
     Ok(Reported { text, kind })
 }
 
-/// What is judged of the solution in a file.
+/// The judgement of the solution in a file.
 fn judge_file<R: Threads + Sync, T: Source + Drop, P: Watch>(
     rt: &R,
     alloc: Global,
@@ -78,29 +76,27 @@ fn judge_file<R: Threads + Sync, T: Source + Drop, P: Watch>(
 ) -> Judgement
     ensures { IsJudgedFrom T.seen request board.now file result }
 {
-    let SolutionsRequest {
-        workers,
-        limit,
-        moves,
-        ..
-    } = request;
     let search = ProveRequest {
         number,
-        workers,
-        limit,
-        moves,
+        workers: request.workers,
+        limit: request.limit,
+        moves: request.moves,
         lurd: false,
     };
     let mut file = file;
     watch.begin(number);
-    let judged = judge_level(rt, alloc, board, search, &mut file, watch);
+    let level = match board {
+        Ok(level) => level,
+        Err(fault) => return Judgement::Faulty(*fault),
+    };
+    let judged = judge_level(rt, alloc, level, search, &mut file, watch);
     match judged {
         Ok(judgement) => judgement,
         Err(fault) => Judgement::stopped_by(fault),
     }
 }
 
-/// What the report has of a level with the solution in a file.
+/// The report's part on a level with the solution in a file.
 fn prove_file<R: Threads + Sync, T: Source + Drop, P: Watch>(
     rt: &R,
     alloc: Global,
@@ -119,7 +115,7 @@ fn prove_file<R: Threads + Sync, T: Source + Drop, P: Watch>(
     judged_of(alloc, number, &entry, &judgement, request)
 }
 
-/// What the report has of a level whose solution could not be opened.
+/// The report's part on a level whose solution could not be opened.
 fn unopened(
     alloc: Global,
     number: u32,
@@ -130,13 +126,8 @@ fn unopened(
     ensures { IfOk result (λ one. one ≡ judged_of request number (listed_of board) (stopped_by fault)) }
 {
     let entry = board.into_entry(alloc)?;
-    judged_of(
-        alloc,
-        number,
-        &entry,
-        &Judgement::stopped_by(fault),
-        request,
-    )
+    let judgement = Judgement::stopped_by(fault);
+    judged_of(alloc, number, &entry, &judgement, request)
 }
 
 /// Proves the solutions of a folder.
@@ -149,13 +140,7 @@ struct Prover<'f, D> {
 impl<'f, D: Folder> Judge for Prover<'f, D> {
     ghost is_right = { λ it. IsProvedFrom (D.opened it.folder.now) D.File.seen it.request };
 
-    ghost first_line = { λ it. head_of it.request.table };
-
     ghost last_line = { λ it. solutions_line it.request.table };
-
-    fn first(&self) -> &'static [u8] {
-        head_of(self.request.table)
-    }
 
     fn judge<R: Threads + Sync, P: Watch>(
         &self,
@@ -199,15 +184,12 @@ pub(crate) fn send_solutions<R: Threads + Sync, D: Folder, P: Watch, K: Sink>(
         (BeginsSolutionsReport (D.opened folder.now) D.File.seen request bytes.now)
         (K.seen sink.old) (K.seen sink.new) result }
 {
+    let SolutionsRequest {
+        from,
+        to,
+        table,
+        ..
+    } = request;
     let prover = Prover { folder, request };
-    send_report(
-        rt,
-        &prover,
-        alloc,
-        bytes,
-        request.from,
-        request.to,
-        watch,
-        sink,
-    )
+    send_report(rt, &prover, alloc, bytes, table, from, to, watch, sink)
 }

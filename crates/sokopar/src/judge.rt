@@ -13,23 +13,16 @@ use std::alloc::{AllocError, Global};
 use std::thread::Threads;
 use xsb::BoardEntry;
 
-/// What a report on the levels of a collection writes of each level, and its first and last line. Each call fails only
-/// if out of memory.
+/// What a report on the levels of a collection writes of each level, and its last line. Each call fails only if out of
+/// memory.
 pub(crate) trait Judge {
     // what is right for a level, by its number
     ghost is_right: { Self → ℕ → Listed → Reported → Type 0 };
 
-    // the first line, which may be empty
-    ghost first_line: { Self → List ℕ };
-
     // the last line, which may be empty, by what was reported
     ghost last_line: { Self → List Reported → List ℕ };
 
-    /// The first line.
-    fn first(&self) -> &'static [u8]
-        ensures { result.now ≡ first_line self.now };
-
-    /// What the report has of a level. A search of it tells `watch` how far it is.
+    /// The report's part on a level. A search of the level tells `watch` how far it is.
     fn judge<R: Threads + Sync, P: Watch>(
         &self,
         rt: &R,

@@ -1,4 +1,4 @@
-//! What is judged of a solution, and the report of it.
+//! The judgement of a solution, and its report.
 ghost use Rattle.std.specs.Prelude.{◌≡◌, ◌++◌, IfOk, OnOk};
 ghost use Rattle.sokopar.specs.Folder.{stopped_by};
 ghost use Rattle.sokopar.specs.Proving.{better_words, judgement_kind, judgement_report, judgement_words, known_words};
@@ -52,10 +52,10 @@ pub enum Standing {
     },
 }
 
-/// What is judged of a solution.
+/// The judgement of a solution.
 #[derive(Drop)]
 pub enum Judgement {
-    /// It solves the level, and compares so with others.
+    /// It solves the level; `standing` says how it compares with others.
     Compared { given: Counts, standing: Standing },
     /// It solves the level, which has more boxes than [`MAX_BOXES`](grid::MAX_BOXES).
     TooManyBoxes(Counts),
@@ -72,15 +72,13 @@ pub enum Judgement {
 }
 
 impl Judgement {
-    /// What is judged of a solution if reading it, or judging it, stopped for a fault.
+    /// The judgement of a solution if reading or judging it stopped for a fault.
     pub(crate) fn stopped_by(fault: RunFault) -> Judgement
         ensures { result ≡ stopped_by fault }
     {
         match fault {
             RunFault::OutOfMemory => Judgement::OutOfMemory,
-            RunFault::Read => Judgement::CannotRead,
-            RunFault::Write => Judgement::CannotRead,
-            RunFault::TooLong => Judgement::CannotRead,
+            _ => Judgement::CannotRead,
         }
     }
 
@@ -94,12 +92,9 @@ impl Judgement {
                 Standing::Better { .. } => Kind::Beaten,
                 Standing::Undecided { .. } => Kind::Open,
             },
-            Judgement::TooManyBoxes(_) => Kind::NotJudged,
-            Judgement::Failing(_) => Kind::NotJudged,
-            Judgement::BadText(_) => Kind::NotJudged,
-            Judgement::Faulty(_) => Kind::NotJudged,
             Judgement::CannotRead => Kind::CannotRead,
             Judgement::OutOfMemory => Kind::OutOfMemory,
+            _ => Kind::NotJudged,
         }
     }
 }
@@ -191,21 +186,15 @@ pub(crate) fn put_better(
     ensures { OnOk result (text.new ≡ text.old ++ better_words before.now after.now judgement.now) }
 {
     match judgement {
-        Judgement::Compared { standing, .. } => match standing {
-            Standing::Better { moves, .. } => {
-                text.put(before)?;
-                text.put_letters(moves)?;
-                text.put(after)
-            }
-            Standing::Optimal(_) => Ok(()),
-            Standing::Undecided { .. } => Ok(()),
-        },
-        Judgement::TooManyBoxes(_) => Ok(()),
-        Judgement::Failing(_) => Ok(()),
-        Judgement::BadText(_) => Ok(()),
-        Judgement::Faulty(_) => Ok(()),
-        Judgement::CannotRead => Ok(()),
-        Judgement::OutOfMemory => Ok(()),
+        Judgement::Compared {
+            standing: Standing::Better { moves, .. },
+            ..
+        } => {
+            text.put(before)?;
+            text.put_letters(moves)?;
+            text.put(after)
+        }
+        _ => Ok(()),
     }
 }
 

@@ -2,6 +2,7 @@
 ghost use Rattle.std.specs.Prelude.{◌≡◌, ◌≤◌, length, IfOk, IfErr, MatchBool};
 ghost use Rattle.sokopar.specs.Entries.{listed_of};
 ghost use Rattle.sokopar.specs.Levels.{BeginsReportOnLevels, IsBetween, IsReportOnLevels};
+ghost use Rattle.sokopar.specs.Table.{head_of};
 ghost use Rattle.sokopar.specs.inside.Sending.{SendsByLine, SendsLast, SendsLevel, SendsLevels, SendsLine, StopsByLine};
 ghost use Rattle.sokopar.specs.inside.Totals.{AreFewLevels};
 
@@ -9,6 +10,7 @@ use crate::fault::RunFault;
 use crate::judge::Judge;
 use crate::show::no_level;
 use crate::sink::Sink;
+use crate::table::head_of;
 use crate::totals::Totals;
 use crate::watch::Watch;
 use crate::writes::write_whole;
@@ -54,29 +56,31 @@ fn send_level<R: Threads + Sync, J: Judge, P: Watch, K: Sink>(
     Ok(totals.with(one.kind))
 }
 
-/// Writes the first line, and then judges the levels of a range one after the other, and writes the line of each before
-/// it goes on. Returns the number of levels of the collection, and the totals of those in the range.
+/// Writes the first line of a table or none, and then judges the levels of a range one after the other, and writes the
+/// line of each before it goes on. Returns the number of levels of the collection, and the totals of those in the
+/// range.
 fn send_levels<R: Threads + Sync, J: Judge, P: Watch, K: Sink>(
     rt: &R,
     judge: &J,
     alloc: Global,
     bytes: &[u8],
+    table: bool,
     from: u32,
     to: u32,
     watch: &mut P,
     sink: &mut K,
 ) -> Result<(u32, Totals), RunFault>
     requires { length bytes.now ≤ MAX_FILE }
-    ensures ok { IfOk result (λ sent. SendsLevels (J.is_right judge.now) (J.first_line judge.now) from to bytes.now
+    ensures ok { IfOk result (λ sent. SendsLevels (J.is_right judge.now) (head_of table) from to bytes.now
         sent.0 sent.1 (K.seen sink.old) (K.seen sink.new)) }
     ensures err { IfErr result (StopsByLine
-        (BeginsReportOnLevels (J.is_right judge.now) (J.first_line judge.now) from to bytes.now) (K.seen sink.old)
+        (BeginsReportOnLevels (J.is_right judge.now) (head_of table) from to bytes.now) (K.seen sink.old)
         (K.seen sink.new)) }
 {
     let Ok(mut collection) = Collection::of(bytes) else {
         unreachable!();
     };
-    send_line(judge.first(), sink)?;
+    send_line(head_of(table), sink)?;
     let mut totals = Totals::new();
     let mut number: u32 = 0;
     'boards: loop {
@@ -91,9 +95,9 @@ fn send_levels<R: Threads + Sync, J: Judge, P: Watch, K: Sink>(
     Ok((number, totals))
 }
 
-#[tactic(auto, using(crate::proofs::ByLine::last_beyond, crate::proofs::ByLine::last_within, crate::proofs::ByLine::last_stopped))]
 /// Writes the last line: that the collection, with this number of levels, has none with the first number of the range;
 /// else this one. Returns the exit status, which is the last one if there is such a level.
+#[tactic(auto, using(crate::proofs::ByLine::last_beyond, crate::proofs::ByLine::last_within, crate::proofs::ByLine::last_stopped))]
 fn send_last<K: Sink>(
     alloc: Global,
     from: u32,
@@ -112,12 +116,14 @@ fn send_last<K: Sink>(
     Ok(worst)
 }
 
-/// Writes the report on the levels of a range: the line of each as soon as it is known. Returns the exit status.
+/// Writes the report on the levels of a range, as a table or not: the line of each as soon as it is known. Returns the
+/// exit status.
 pub(crate) fn send_report<R: Threads + Sync, J: Judge, P: Watch, K: Sink>(
     rt: &R,
     judge: &J,
     alloc: Global,
     bytes: &[u8],
+    table: bool,
     from: u32,
     to: u32,
     watch: &mut P,
@@ -125,11 +131,11 @@ pub(crate) fn send_report<R: Threads + Sync, J: Judge, P: Watch, K: Sink>(
 ) -> Result<u8, RunFault>
     requires { length bytes.now ≤ MAX_FILE }
     ensures { SendsByLine
-        (IsReportOnLevels (J.is_right judge.now) (J.first_line judge.now) (J.last_line judge.now) from to bytes.now)
-        (BeginsReportOnLevels (J.is_right judge.now) (J.first_line judge.now) from to bytes.now)
+        (IsReportOnLevels (J.is_right judge.now) (head_of table) (J.last_line judge.now) from to bytes.now)
+        (BeginsReportOnLevels (J.is_right judge.now) (head_of table) from to bytes.now)
         (K.seen sink.old) (K.seen sink.new) result }
 {
-    let (levels, totals) = send_levels(rt, judge, alloc, bytes, from, to, watch, sink)?;
+    let (levels, totals) = send_levels(rt, judge, alloc, bytes, table, from, to, watch, sink)?;
     let last = judge.last(alloc, totals)?;
     send_last(alloc, from, levels, last.as_slice(), totals.status(), sink)
 }

@@ -9,7 +9,6 @@ ghost use Rattle.shortest.specs.Improving.{IsNoWorse};
 ghost use Rattle.shortest.specs.Outcomes.{IsMovesOutcome};
 ghost use Rattle.sokopar.specs.Moves.{IsBestSolution, best_words, claim_kind, claim_status, claim_verdict};
 ghost use Rattle.sokopar.specs.Moves.{claimed_words, optimal_words};
-ghost use Rattle.sokopar.specs.inside.Parts.{fewest_words};
 
 use crate::replay::put_counts;
 use crate::reported::Kind;
@@ -37,8 +36,7 @@ impl MovesClaim {
         ensures { result ≡ claim_kind self }
     {
         match self {
-            MovesClaim::Counted => Kind::Optimal,
-            MovesClaim::Fewest => Kind::Optimal,
+            MovesClaim::Counted | MovesClaim::Fewest => Kind::Optimal,
             MovesClaim::Open => Kind::Open,
         }
     }
@@ -48,8 +46,7 @@ impl MovesClaim {
         ensures { result.now ≡ claim_verdict self }
     {
         match self {
-            MovesClaim::Counted => b"optimal",
-            MovesClaim::Fewest => b"optimal",
+            MovesClaim::Counted | MovesClaim::Fewest => b"optimal",
             MovesClaim::Open => b"optimal pushes",
         }
     }
@@ -59,8 +56,7 @@ impl MovesClaim {
         ensures { result ≡ claim_status self }
     {
         match self {
-            MovesClaim::Counted => 0,
-            MovesClaim::Fewest => 0,
+            MovesClaim::Counted | MovesClaim::Fewest => 0,
             MovesClaim::Open => 4,
         }
     }
@@ -178,7 +174,7 @@ pub(crate) fn put_optimal(text: &mut Text, pushes: usize, moves: usize) -> Resul
 
 /// Appends the fewest pushes and the fewest moves.
 fn put_fewest(text: &mut Text, pushes: usize, moves: usize) -> Result<(), AllocError>
-    ensures { OnOk result (text.new ≡ text.old ++ fewest_words pushes moves) }
+    ensures { OnOk result (text.new ≡ text.old ++ claimed_words 0 pushes moves MovesClaim.Fewest) }
 {
     text.put(b"optimal ")?;
     text.put_number(pushes)?;

@@ -48,8 +48,8 @@ fn outcome_of(
     }
 }
 
-#[tactic(auto, using(crate::proofs::Judging::bounds_of))]
 /// A number of pushes that every solution has at least.
+#[tactic(auto, using(crate::proofs::Judging::bounds_of))]
 fn bound_of(outcome: &Outcome) -> u32
     ensures { (board : Board) (cap : Option ℕ) (limit : ℕ) → IsOutcome board cap limit outcome.now →
         NoneHasFewer board result }
@@ -57,8 +57,7 @@ fn bound_of(outcome: &Outcome) -> u32
     match outcome {
         Outcome::Least { pushes, .. } => *pushes,
         Outcome::Limit { at_least } => *at_least,
-        Outcome::NoneWithin => 0,
-        Outcome::Unsolvable => 0,
+        Outcome::NoneWithin | Outcome::Unsolvable => 0,
     }
 }
 

@@ -1,7 +1,7 @@
 //! The picture of a board: its cells as they were read, and the dead squares of a level.
 ghost use Rattle.std.specs.Prelude.{◌≡◌, ℕ, ◌≤◌, ◌++◌, List, length, map, IfOk, OnOk};
 ghost use Rattle.sokopar.specs.Explaining.{AreShown, IsPicture, IsShown, drawn, shown_byte};
-ghost use Rattle.sokopar.specs.inside.Explaining.{board_in};
+ghost use Rattle.sokopar.specs.inside.Explaining.{AreBounded, board_in};
 ghost use Rattle.xsb.specs.Collection.{IsJudged};
 ghost use Rattle.xsb.specs.Rows.{cell_byte};
 
@@ -58,7 +58,7 @@ fn picture_of(
     rows: &BoardRows,
     board: &Result<Level, LevelFault>,
 ) -> Result<Vec<u8>, AllocError>
-    requires bound { length rows.now.cells.items ≤ 65535 }
+    requires bounds { AreBounded rows.now }
     requires judged { IsJudged (board_in rows.now) board.now }
     ensures { IfOk result (λ bytes. IsPicture board.now rows.now.cells.items bytes.items) }
 {
@@ -83,8 +83,7 @@ pub(crate) fn put_drawn(
     rows: &BoardRows,
     board: &Result<Level, LevelFault>,
 ) -> Result<(), AllocError>
-    requires columns { 1 ≤ rows.now.cols }
-    requires bound { length rows.now.cells.items ≤ 65535 }
+    requires bounds { AreBounded rows.now }
     requires judged { IsJudged (board_in rows.now) board.now }
     ensures { OnOk result ((bytes : List ℕ) × IsPicture board.now rows.now.cells.items bytes ×
         (text.new ≡ text.old ++ drawn (board_in rows.now) bytes)) }

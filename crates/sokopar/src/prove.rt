@@ -11,21 +11,19 @@ ghost use Rattle.shortest.specs.Outcomes.{IsMovesOutcome};
 ghost use Rattle.sokopar.specs.Best.{IsUndecided};
 ghost use Rattle.sokopar.specs.Listing.{IsLevelOf};
 ghost use Rattle.sokopar.specs.Moves.{IsClaim};
-ghost use Rattle.sokopar.specs.Proving.{IsJudged, IsJudgement, IsJudgementOn, IsProofOf, IsProveReport, IsStanding};
-ghost use Rattle.sokopar.specs.Report.{ReportsOnText};
-ghost use Rattle.sokopar.specs.Runs.{ReadsIfSome, Stops};
+ghost use Rattle.sokopar.specs.Proving.{IsJudged, IsJudgement, IsProofOf, IsProveReport, IsStanding};
+ghost use Rattle.sokopar.specs.Runs.{ReadsIfSome, ReadsWhole, Stops};
 ghost use Rattle.sokopar.specs.declared.moves.MovesClaim.TheVariants.{Open};
 
 use crate::fault::RunFault;
 use crate::judgement::{Counts, Judgement, Known, Standing, judgement_report};
-use crate::listing::{Chosen, level_of};
 use crate::moves::{MovesClaim, best_solution, improved, search_fewest};
 use crate::proving::ProveRequest;
 use crate::reads::read_whole;
 use crate::report::Report;
-use crate::show::no_level;
+use crate::show::lawful_level;
 use crate::source::Source;
-use grid::{Level, LevelFault, MAX_BOXES, Moves};
+use grid::{Level, MAX_BOXES, Moves};
 use lurd::{LurdFault, Verdict, parse, replay};
 use prover::laws::solutions_are_alike;
 use prover::{Outcome, Progress, SearchFault};
@@ -164,11 +162,11 @@ fn with_open_pushes(
     with_more_pushes(alloc, level, given, moves, pushes as u32, request)
 }
 
-#[tactic(auto, using(crate::proofs::Judging::of_search_fault))]
 /// How a solution with these numbers of pushes and moves compares with others, under a limit of positions.
 ///
 /// All solutions of a level have an even number of pushes, or all have an odd number. So a solution has the fewest
 /// pushes unless another one has at least two fewer.
+#[tactic(auto, using(crate::proofs::Judging::of_search_fault))]
 fn standing_of<R: Threads + Sync, P: Progress>(
     rt: &R,
     alloc: Global,
@@ -204,8 +202,8 @@ fn standing_of<R: Threads + Sync, P: Progress>(
     }
 }
 
+/// The judgement of moves, under a limit of positions.
 #[tactic(auto, using(crate::proofs::Judging::of_verdict))]
-/// What is judged of moves, under a limit of positions.
 fn judge_moves<R: Threads + Sync, P: Progress>(
     rt: &R,
     alloc: Global,
@@ -239,21 +237,19 @@ fn judge_moves<R: Threads + Sync, P: Progress>(
     }
 }
 
-/// What is judged of a text with a fault.
+/// The judgement of a text with a fault.
 fn bad_text(fault: LurdFault) -> Result<Judgement, AllocError>
     ensures text { IfOk result (λ judgement. judgement ≡ Judgement.BadText fault) }
     ensures memory { OnOk result (fault ≢ LurdFault.OutOfMemory) }
 {
     match fault {
-        LurdFault::BadByte { .. } => Ok(Judgement::BadText(fault)),
-        LurdFault::BadCount { .. } => Ok(Judgement::BadText(fault)),
-        LurdFault::TooManyMoves => Ok(Judgement::BadText(fault)),
         LurdFault::OutOfMemory => Err(AllocError),
+        _ => Ok(Judgement::BadText(fault)),
     }
 }
 
+/// The judgement of a text on a level, under a limit of positions.
 #[tactic(auto, using(crate::proofs::Judging::of_text, crate::proofs::Judging::of_fault))]
-/// What is judged of a text on a level, under a limit of positions.
 fn judge_text<R: Threads + Sync, P: Progress>(
     rt: &R,
     alloc: Global,
@@ -270,61 +266,47 @@ fn judge_text<R: Threads + Sync, P: Progress>(
     }
 }
 
+/// The judgement of the solution of a lawful level, under a limit of positions. It reads the solution to its end.
 #[tactic(auto, using(crate::proofs::Reading::stops_after))]
-/// What is judged of the solution of a level, under a limit of positions. It reads the solution to its end if the level
-/// is lawful, and not otherwise.
 pub(crate) fn judge_level<R: Threads + Sync, T: Source, P: Progress>(
     rt: &R,
     alloc: Global,
-    board: &Result<Level, LevelFault>,
+    level: &Level,
     request: ProveRequest,
     solution: &mut T,
     progress: &mut P,
 ) -> Result<Judgement, RunFault>
-    ensures ok { IfOk result (λ judgement. (text : Option (List ℕ)) ×
-        ReadsIfSome (T.seen solution.old) (T.seen solution.new) text
-        × IsJudgementOn request.moves request.limit board.now text judgement) }
-    ensures err { IfErr result (λ fault. (level : Board) × (board.now ≡ Ok level) ×
-        Stops (T.seen solution.old) (T.seen solution.new) fault) }
+    ensures ok { IfOk result (λ judgement. (text : List ℕ) ×
+        ReadsWhole (T.seen solution.old) (T.seen solution.new) text
+        × IsJudgement request.moves request.limit level.now text judgement) }
+    ensures err { IfErr result (Stops (T.seen solution.old) (T.seen solution.new)) }
 {
-    match board {
-        Ok(level) => {
-            let text = read_whole(alloc, solution)?;
-            Ok(judge_text(rt, alloc, level, text.as_slice(), request, progress)?)
-        }
-        Err(fault) => Ok(Judgement::Faulty(*fault)),
-    }
+    let text = read_whole(alloc, solution)?;
+    Ok(judge_text(rt, alloc, level, text.as_slice(), request, progress)?)
 }
 
-/// The report of proving on level N under a limit of positions. It reads the solution to its end if the level is
-/// lawful, and not otherwise.
+/// The report of proving on a lawful level under a limit of positions. It reads the solution to its end.
+#[tactic(auto, using(crate::proofs::Reading::stops_after))]
 fn prove_level<R: Threads + Sync, T: Source, P: Progress>(
     rt: &R,
     alloc: Global,
-    chosen: &Chosen,
+    level: &Level,
     request: ProveRequest,
     solution: &mut T,
     progress: &mut P,
 ) -> Result<Report, RunFault>
-    requires { 1 ≤ request.number }
-    ensures ok { IfOk result (λ report. (text : Option (List ℕ)) ×
-        ReadsIfSome (T.seen solution.old) (T.seen solution.new) text
-        × ReportsOnText (IsProofOf request.moves request.limit) request.number chosen.now text report) }
-    ensures err { IfErr result (λ fault. ((fault ≡ RunFault.OutOfMemory) × (T.seen solution.new ≡ T.seen solution.old))
-        ⊎ ((board : Board) × (chosen.now ≡ Some (Ok board)) ×
-        Stops (T.seen solution.old) (T.seen solution.new) fault)) }
+    ensures ok { IfOk result (λ report. (text : List ℕ) ×
+        ReadsWhole (T.seen solution.old) (T.seen solution.new) text
+        × IsProofOf request.moves request.limit level.now text report) }
+    ensures err { IfErr result (Stops (T.seen solution.old) (T.seen solution.new)) }
 {
-    match chosen {
-        None => Ok(no_level(alloc, request.number)?),
-        Some(board) => {
-            let judgement = judge_level(rt, alloc, board, request, solution, progress)?;
-            Ok(judgement_report(alloc, &judgement, request.limit)?)
-        }
-    }
+    let judgement = judge_level(rt, alloc, level, request, solution, progress)?;
+    Ok(judgement_report(alloc, &judgement, request.limit)?)
 }
 
 /// The report of proving on level N of a collection under a limit of positions. It reads the solution to its end if the
 /// level is lawful, and not otherwise.
+#[tactic(auto, using(crate::proofs::Reporting::on_text))]
 pub(crate) fn prove_in<R: Threads + Sync, T: Source, P: Progress>(
     rt: &R,
     alloc: Global,
@@ -342,6 +324,8 @@ pub(crate) fn prove_in<R: Threads + Sync, T: Source, P: Progress>(
         ⊎ ((board : Board) × IsLevelOf bytes.now request.number board ×
         Stops (T.seen solution.old) (T.seen solution.new) fault)) }
 {
-    let chosen = level_of(alloc, bytes, request.number)?;
-    prove_level(rt, alloc, &chosen, request, solution, progress)
+    match lawful_level(alloc, bytes, request.number)? {
+        Ok(level) => prove_level(rt, alloc, &level, request, solution, progress),
+        Err(report) => Ok(report),
+    }
 }

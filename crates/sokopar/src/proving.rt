@@ -66,8 +66,8 @@ pub struct ProveRequest {
     pub lurd: bool,
 }
 
-/// The first and the last level for [`run_prove_collection`], counted from 1, whether it writes a table, and the settings
-/// of each search, as for [`run_prove`].
+/// The first and the last level for [`run_prove_collection`], counted from 1, whether it writes a table, and the
+/// settings of each search, as for [`run_prove`].
 #[derive(Clone, Copy, PartialEq, Eq, Debug)]
 pub struct SolutionsRequest {
     pub from: u32,
@@ -78,7 +78,6 @@ pub struct SolutionsRequest {
     pub moves: bool,
 }
 
-#[tactic(auto, using(crate::proofs::Reading::stops_after, crate::proofs::Written::run_written))]
 /// Finds a solution with the fewest pushes of a level of a collection. Writes its numbers of pushes and moves, and the
 /// solution as LURD text; or that the level has no solution, or none with as few pushes as the cap; or that the search
 /// found more positions than the limit, and a lower bound on the pushes of every solution. Returns the exit status: 0
@@ -86,6 +85,7 @@ pub struct SolutionsRequest {
 ///
 /// If the request wants the fewest moves, the solution has, of all with the fewest pushes, the fewest moves. If the
 /// search for these ends at its limit, it writes another solution with the fewest pushes, says so, and returns 4.
+#[tactic(auto, using(crate::proofs::Reading::stops_after, crate::proofs::Written::run_written))]
 pub fn run_best<R: Threads + Sync, S: Source, P: Watch, K: Sink>(
     rt: &R,
     alloc: Global,
@@ -111,7 +111,6 @@ pub fn run_best<R: Threads + Sync, S: Source, P: Watch, K: Sink>(
     report.send_as(lurd, sink)
 }
 
-#[tactic(auto, using(crate::proofs::ByLine::runs_by_line, crate::proofs::ByLine::stopped_reading))]
 /// Finds a solution with the fewest pushes of each level of a part of a collection, one level after the other. Writes a
 /// line for each level before it goes on to the next one, and the totals. Returns the exit status: 0 if it finds a
 /// solution for each level and no search ended at its limit, else 5 if a search ran out of memory, else 4 if one ended
@@ -124,6 +123,7 @@ pub fn run_best<R: Threads + Sync, S: Source, P: Watch, K: Sink>(
 /// Fails as [`run_check`](crate::run_check) does, except that it may run out of memory after some lines; then it has
 /// written these lines whole. A search that runs out of memory only ends its level. If a write fails, it has written
 /// all lines before whole, and a beginning of this one.
+#[tactic(auto, using(crate::proofs::ByLine::runs_by_line, crate::proofs::ByLine::stopped_reading))]
 pub fn run_best_collection<R: Threads + Sync, S: Source, P: Watch, K: Sink>(
     rt: &R,
     alloc: Global,
@@ -139,7 +139,6 @@ pub fn run_best_collection<R: Threads + Sync, S: Source, P: Watch, K: Sink>(
     send_collection(rt, alloc, bytes.as_slice(), request, watch, sink)
 }
 
-#[tactic(auto, using(crate::proofs::Reading::stops_after, crate::proofs::Written::run_written_of_two))]
 /// Proves that a solution in LURD text has the fewest pushes of all solutions of a level of a collection. Otherwise it
 /// writes a solution with the fewest pushes; or that the search found more positions than the limit, and a lower bound
 /// on the pushes of every solution, with a solution that has fewer pushes than the given one if it finds one near it.
@@ -151,6 +150,7 @@ pub fn run_best_collection<R: Threads + Sync, S: Source, P: Watch, K: Sink>(
 /// If the request wants the fewest moves, it also proves that no solution with as few pushes has fewer moves. Otherwise
 /// it writes one with the fewest pushes and, of these, the fewest moves. If the search for these ends at its limit, it
 /// says so. It returns 4 then, or 1 if it has a solution with fewer pushes, or with as many and fewer moves.
+#[tactic(auto, using(crate::proofs::Reading::stops_after, crate::proofs::Written::run_written_of_two))]
 pub fn run_prove<R: Threads + Sync, S: Source, T: Source, P: Watch, K: Sink>(
     rt: &R,
     alloc: Global,
@@ -172,7 +172,6 @@ pub fn run_prove<R: Threads + Sync, S: Source, T: Source, P: Watch, K: Sink>(
     report.send_as(request.lurd, sink)
 }
 
-#[tactic(auto, using(crate::proofs::ByLine::runs_by_line, crate::proofs::ByLine::stopped_reading))]
 /// Proves the solutions of a folder, one after the other: for each level of a part of a collection of which the folder
 /// has one, it writes the report of [`run_prove`] in one line before it goes on to the next level, and then the totals.
 /// A solution that cannot be read, or has more than [`MAX_FILE`](xsb::MAX_FILE) bytes, and one whose search runs out of
@@ -183,6 +182,7 @@ pub fn run_prove<R: Threads + Sync, S: Source, T: Source, P: Watch, K: Sink>(
 /// A table has a head line, a line with the columns of each of these levels, and no totals.
 ///
 /// It fails as [`run_best_collection`] does.
+#[tactic(auto, using(crate::proofs::ByLine::runs_by_line, crate::proofs::ByLine::stopped_reading))]
 pub fn run_prove_collection<R: Threads + Sync, S: Source, D: Folder, P: Watch, K: Sink>(
     rt: &R,
     alloc: Global,

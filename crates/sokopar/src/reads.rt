@@ -9,9 +9,9 @@ use xsb::MAX_FILE;
 /// The greatest number of bytes of one read.
 const CHUNK: usize = 8192;
 
-#[tactic(auto, using(crate::proofs::Acts::pass_none, crate::proofs::Acts::consumes_none, crate::proofs::Acts::consumes_kept, crate::proofs::Acts::were_all))]
 /// Reads a source to its end. It stops at the first read that fails, and once there are more than
 /// [`MAX_FILE`](xsb::MAX_FILE) bytes.
+#[tactic(auto, using(crate::proofs::Acts::pass_none, crate::proofs::Acts::consumes_none, crate::proofs::Acts::consumes_kept, crate::proofs::Acts::were_all))]
 pub(crate) fn read_whole<S: Source>(alloc: Global, source: &mut S) -> Result<Vec<u8>, RunFault>
     ensures ok { IfOk result (λ bytes. ReadsWhole (S.seen source.old) (S.seen source.new) bytes.items) }
     ensures err { IfErr result (λ fault. Stops (S.seen source.old) (S.seen source.new) fault) }

@@ -1,10 +1,10 @@
-//! What is found against a level.
+//! The remark on a level: what is wrong with it.
 ghost use Rattle.std.specs.Prelude.{◌≡◌};
 ghost use Rattle.sokopar.specs.Explaining.{is_sound};
 
 use grid::Square;
 
-/// What is found against a level.
+/// The remark on a level: what is wrong with it.
 #[derive(Drop)]
 pub(crate) enum Remark {
     /// It has no player or several: the squares of all.

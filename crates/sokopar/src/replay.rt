@@ -1,15 +1,14 @@
 ghost use Rattle.std.specs.Prelude.{◌≡◌, ◌≢◌, ◌++◌, ◌⊎◌, ◌≤◌, ℕ, List, length, Option, OnOk, IfOk, IfErr};
 ghost use Rattle.sokopar.specs.Report.{counts_words, text_fault_report, text_fault_words, verdict_report};
-ghost use Rattle.sokopar.specs.Report.{verdict_status, verdict_words, IsReplayOf, IsReplayReport, ReportsOnText};
-ghost use Rattle.sokopar.specs.Runs.{ReadsIfSome, Stops};
+ghost use Rattle.sokopar.specs.Report.{verdict_status, verdict_words, IsReplayOf, IsReplayReport};
+ghost use Rattle.sokopar.specs.Runs.{ReadsIfSome, ReadsWhole, Stops};
 ghost use Rattle.grid.specs.Board.{Board};
 ghost use Rattle.sokopar.specs.Listing.{IsLevelOf};
 
 use crate::fault::RunFault;
-use crate::listing::{Chosen, level_of};
 use crate::reads::read_whole;
 use crate::report::Report;
-use crate::show::{fault_report, no_level};
+use crate::show::lawful_level;
 use crate::source::Source;
 use crate::text::Text;
 use grid::Level;
@@ -57,9 +56,7 @@ fn status_of(verdict: Verdict) -> u8
 {
     match verdict {
         Verdict::Solved { .. } => 0,
-        Verdict::Unsolved { .. } => 1,
-        Verdict::Blocked { .. } => 1,
-        Verdict::WrongCase { .. } => 1,
+        _ => 1,
     }
 }
 
@@ -113,34 +110,24 @@ fn replay_report(alloc: Global, level: &Level, solution: &[u8]) -> Result<Report
     }
 }
 
+/// The report of replaying a solution on a lawful level. It reads the solution to its end.
 #[tactic(auto, using(crate::proofs::Reading::stops_after))]
-/// The report of replaying on level N. It reads the solution to its end if the level is lawful, and not otherwise.
 fn replay_level<T: Source>(
     alloc: Global,
-    chosen: &Chosen,
-    number: u32,
+    level: &Level,
     solution: &mut T,
 ) -> Result<Report, RunFault>
-    requires { 1 ≤ number }
-    ensures ok { IfOk result (λ report. (text : Option (List ℕ)) ×
-        ReadsIfSome (T.seen solution.old) (T.seen solution.new) text
-        × ReportsOnText IsReplayOf number chosen.now text report) }
-    ensures err { IfErr result (λ fault. ((fault ≡ RunFault.OutOfMemory) × (T.seen solution.new ≡ T.seen solution.old))
-        ⊎ ((board : Board) × (chosen.now ≡ Some (Ok board)) ×
-        Stops (T.seen solution.old) (T.seen solution.new) fault)) }
+    ensures ok { IfOk result (λ report. (text : List ℕ) ×
+        ReadsWhole (T.seen solution.old) (T.seen solution.new) text × IsReplayOf level.now text report) }
+    ensures err { IfErr result (Stops (T.seen solution.old) (T.seen solution.new)) }
 {
-    match chosen {
-        None => Ok(no_level(alloc, number)?),
-        Some(Err(fault)) => Ok(fault_report(alloc, *fault)?),
-        Some(Ok(level)) => {
-            let text = read_whole(alloc, solution)?;
-            Ok(replay_report(alloc, level, text.as_slice())?)
-        }
-    }
+    let text = read_whole(alloc, solution)?;
+    Ok(replay_report(alloc, level, text.as_slice())?)
 }
 
 /// The report of replaying on level N of a collection. It reads the solution to its end if the level is lawful, and not
 /// otherwise.
+#[tactic(auto, using(crate::proofs::Reporting::on_text))]
 pub(crate) fn replay_in<T: Source>(
     alloc: Global,
     bytes: &[u8],
@@ -156,6 +143,8 @@ pub(crate) fn replay_in<T: Source>(
         ⊎ ((board : Board) × IsLevelOf bytes.now number board ×
         Stops (T.seen solution.old) (T.seen solution.new) fault)) }
 {
-    let chosen = level_of(alloc, bytes, number)?;
-    replay_level(alloc, &chosen, number, solution)
+    match lawful_level(alloc, bytes, number)? {
+        Ok(level) => replay_level(alloc, &level, solution),
+        Err(report) => Ok(report),
+    }
 }

@@ -32,20 +32,6 @@ impl Report {
         Report { text, status }
     }
 
-    /// The report's text.
-    pub(crate) fn text(&self) -> &[u8]
-        ensures { result.now ≡ self.now.text }
-    {
-        self.text.as_slice()
-    }
-
-    /// The report's status.
-    pub(crate) fn status(&self) -> u8
-        ensures { result ≡ self.now.status }
-    {
-        self.status
-    }
-
     /// Writes the report, and returns its status.
     pub(crate) fn send<K: Sink>(&self, sink: &mut K) -> Result<u8, RunFault>
         ensures { Sends self.now (K.seen sink.old) (K.seen sink.new) result }

@@ -30,19 +30,16 @@ impl Kind {
         ensures { result ≡ kind_status self }
     {
         match self {
-            Kind::Optimal => 0,
-            Kind::Unsolved => 1,
-            Kind::Beaten => 1,
+            Kind::Optimal | Kind::Missing => 0,
+            Kind::CannotRead => 3,
             Kind::Open => 4,
             Kind::OutOfMemory => 5,
-            Kind::NotJudged => 1,
-            Kind::CannotRead => 3,
-            Kind::Missing => 0,
+            _ => 1,
         }
     }
 }
 
-/// What a report has of a level: its line, and how the totals count it.
+/// A report's part on a level: its line, and how the totals count it.
 #[derive(Drop)]
 pub(crate) struct Reported {
     pub(crate) text: Text,

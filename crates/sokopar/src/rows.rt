@@ -3,7 +3,7 @@ ghost use Rattle.std.specs.Prelude.{◌≡◌, [], ◌++◌, OnOk};
 ghost use Rattle.sokopar.specs.Collection.{bound_of, finding_verdict, found_of, letters_of, row_of};
 ghost use Rattle.sokopar.specs.Entries.{entry_listed};
 ghost use Rattle.sokopar.specs.Folder.{better_of, failure_verdict, given_of, judgement_bound, judgement_row};
-ghost use Rattle.sokopar.specs.Folder.{judgement_verdict, known_bound};
+ghost use Rattle.sokopar.specs.Folder.{judgement_verdict};
 ghost use Rattle.sokopar.specs.Proving.{better_words};
 ghost use Rattle.sokopar.specs.Table.{row_line, word_cell};
 
@@ -43,12 +43,7 @@ fn found_of(finding: &Finding) -> Option<Counts>
             pushes: best.pushes as usize,
             moves: best.moves.len(),
         }),
-        Finding::Searched(BestOutcome::NoneWithin) => None,
-        Finding::Searched(BestOutcome::Unsolvable) => None,
-        Finding::Searched(BestOutcome::Limit { .. }) => None,
-        Finding::TooManyBoxes => None,
-        Finding::OutOfMemory { .. } => None,
-        Finding::Faulty(_) => None,
+        _ => None,
     }
 }
 
@@ -57,13 +52,9 @@ fn bound_of(finding: &Finding) -> Option<usize>
     ensures { result ≡ bound_of finding.now }
 {
     match finding {
-        Finding::Searched(BestOutcome::Least(_)) => None,
-        Finding::Searched(BestOutcome::NoneWithin) => None,
-        Finding::Searched(BestOutcome::Unsolvable) => None,
         Finding::Searched(BestOutcome::Limit { at_least }) => Some(*at_least as usize),
-        Finding::TooManyBoxes => None,
         Finding::OutOfMemory { at_least } => Some(*at_least as usize),
-        Finding::Faulty(_) => None,
+        _ => None,
     }
 }
 
@@ -74,12 +65,7 @@ fn put_solution(text: &mut Text, finding: &Finding) -> Result<(), AllocError>
     text.put(b"\t")?;
     match finding {
         Finding::Searched(BestOutcome::Least(best)) => text.put_letters(&best.moves),
-        Finding::Searched(BestOutcome::NoneWithin) => Ok(()),
-        Finding::Searched(BestOutcome::Unsolvable) => Ok(()),
-        Finding::Searched(BestOutcome::Limit { .. }) => Ok(()),
-        Finding::TooManyBoxes => Ok(()),
-        Finding::OutOfMemory { .. } => Ok(()),
-        Finding::Faulty(_) => Ok(()),
+        _ => Ok(()),
     }
 }
 
@@ -108,9 +94,7 @@ fn put_failure(text: &mut Text, verdict: Verdict) -> Result<(), AllocError>
 {
     match verdict {
         Verdict::Unsolved { .. } => text.put(b"unsolved"),
-        Verdict::Solved { .. } => replay::put_verdict(text, verdict),
-        Verdict::Blocked { .. } => replay::put_verdict(text, verdict),
-        Verdict::WrongCase { .. } => replay::put_verdict(text, verdict),
+        _ => replay::put_verdict(text, verdict),
     }
 }
 
@@ -126,11 +110,7 @@ fn put_verdict(text: &mut Text, judgement: &Judgement, limit: u32) -> Result<(),
             Standing::Undecided { .. } => text.put(b"open"),
         },
         Judgement::Failing(verdict) => put_failure(text, *verdict),
-        Judgement::TooManyBoxes(_) => put_judgement(text, judgement, limit),
-        Judgement::BadText(_) => put_judgement(text, judgement, limit),
-        Judgement::Faulty(_) => put_judgement(text, judgement, limit),
-        Judgement::CannotRead => put_judgement(text, judgement, limit),
-        Judgement::OutOfMemory => put_judgement(text, judgement, limit),
+        _ => put_judgement(text, judgement, limit),
     }
 }
 
@@ -139,13 +119,8 @@ fn given_of(judgement: &Judgement) -> Option<Counts>
     ensures { result ≡ given_of judgement.now }
 {
     match judgement {
-        Judgement::Compared { given, .. } => Some(*given),
-        Judgement::TooManyBoxes(given) => Some(*given),
-        Judgement::Failing(_) => None,
-        Judgement::BadText(_) => None,
-        Judgement::Faulty(_) => None,
-        Judgement::CannotRead => None,
-        Judgement::OutOfMemory => None,
+        Judgement::Compared { given, .. } | Judgement::TooManyBoxes(given) => Some(*given),
+        _ => None,
     }
 }
 
@@ -154,31 +129,14 @@ fn better_of(judgement: &Judgement) -> Option<Counts>
     ensures { result ≡ better_of judgement.now }
 {
     match judgement {
-        Judgement::Compared { standing, .. } => match standing {
-            Standing::Optimal(_) => None,
-            Standing::Better { moves, pushes, .. } => Some(Counts {
-                pushes: *pushes,
-                moves: moves.len(),
-            }),
-            Standing::Undecided { .. } => None,
-        },
-        Judgement::TooManyBoxes(_) => None,
-        Judgement::Failing(_) => None,
-        Judgement::BadText(_) => None,
-        Judgement::Faulty(_) => None,
-        Judgement::CannotRead => None,
-        Judgement::OutOfMemory => None,
-    }
-}
-
-/// The bound of a search for the fewest pushes that ended at its limit, though a better solution was found.
-fn known_bound(known: Known) -> Option<usize>
-    ensures { result ≡ known_bound known }
-{
-    match known {
-        Known::FewestPushes(_) => None,
-        Known::AtLeast(bound) => Some(bound as usize),
-        Known::FewerMoves => None,
+        Judgement::Compared {
+            standing: Standing::Better { moves, pushes, .. },
+            ..
+        } => Some(Counts {
+            pushes: *pushes,
+            moves: moves.len(),
+        }),
+        _ => None,
     }
 }
 
@@ -188,16 +146,14 @@ fn judgement_bound(judgement: &Judgement) -> Option<usize>
 {
     match judgement {
         Judgement::Compared { standing, .. } => match standing {
-            Standing::Optimal(_) => None,
-            Standing::Better { known, .. } => known_bound(*known),
+            Standing::Better {
+                known: Known::AtLeast(bound),
+                ..
+            } => Some(*bound as usize),
             Standing::Undecided { at_least } => Some(*at_least as usize),
+            _ => None,
         },
-        Judgement::TooManyBoxes(_) => None,
-        Judgement::Failing(_) => None,
-        Judgement::BadText(_) => None,
-        Judgement::Faulty(_) => None,
-        Judgement::CannotRead => None,
-        Judgement::OutOfMemory => None,
+        _ => None,
     }
 }
 

@@ -1,8 +1,7 @@
 //! The sentences of remarks, and the lines of broken rows.
-ghost use Rattle.std.specs.Prelude.{◌≡◌, ℕ, ◌+◌, ◌/◌, ◌%◌, ◌≤◌, ◌++◌, [], List, OnOk, cond, codes, decimal, flat_map, slice_get};
+ghost use Rattle.std.specs.Prelude.{◌≡◌, ◌+◌, ◌/◌, ◌%◌, ◌≤◌, ◌++◌, [], OnOk, cond, codes, decimal, flat_map, slice_get};
 ghost use Rattle.sokopar.specs.Explaining.{broken_line, byte_words, cause_words, excess_words, more_words};
 ghost use Rattle.sokopar.specs.Explaining.{place_words, remark_words, sentence, sentence_at, sentences};
-ghost use Rattle.xsb.specs.declared.places.RowPlace.{RowPlace};
 
 use crate::remark::Remark;
 use crate::text::Text;
@@ -13,8 +12,8 @@ use xsb::{BoardRows, BrokenRow, Cause, Excess, RowPlace};
 /// The most squares that sentences of a kind list.
 pub(crate) const MOST_PLACES: usize = 20;
 
-#[tactic(auto, unfolding(crate::specs::Explaining::sentence))]
 /// Appends a sentence.
+#[tactic(auto, unfolding(crate::specs::Explaining::sentence))]
 fn put_sentence(text: &mut Text, words: &[u8]) -> Result<(), AllocError>
     ensures { OnOk result (text.new ≡ text.old ++ sentence words.now) }
 {
@@ -62,8 +61,8 @@ fn place_of(rows: &BoardRows, row: usize) -> Option<RowPlace>
     rows.places.get(row).copied()
 }
 
-#[tactic(auto, unfolding(crate::specs::Explaining::sentence_at))]
 /// Appends where a square is.
+#[tactic(auto, unfolding(crate::specs::Explaining::sentence_at))]
 fn put_sentence_at(
     text: &mut Text,
     words: &[u8],
@@ -109,8 +108,8 @@ fn put_more(text: &mut Text, count: usize) -> Result<(), AllocError>
     text.put(b" more\n")
 }
 
-#[tactic(auto, unfolding(crate::specs::Explaining::sentences))]
 /// Appends where each of some squares is, up to [`MOST_PLACES`], and how many more there are.
+#[tactic(auto, unfolding(crate::specs::Explaining::sentences))]
 fn put_sentences(
     text: &mut Text,
     words: &[u8],
@@ -136,8 +135,8 @@ pub(crate) fn put_excess(text: &mut Text, excess: Excess) -> Result<(), AllocErr
     }
 }
 
-#[tactic(auto, unfolding(crate::specs::Explaining::sentence))]
 /// Appends the line of a row that is too many.
+#[tactic(auto, unfolding(crate::specs::Explaining::sentence))]
 fn put_tall(text: &mut Text, row: usize, line: u32) -> Result<(), AllocError>
     ensures { OnOk result (text.new ≡ text.old ++
         sentence (codes "row " ++ decimal row ++ codes " is at line " ++ decimal line)) }
@@ -150,8 +149,8 @@ fn put_tall(text: &mut Text, row: usize, line: u32) -> Result<(), AllocError>
     text.put(b"\n")
 }
 
-#[tactic(auto, unfolding(crate::specs::Explaining::sentence))]
 /// Appends the line of a row that is too long.
+#[tactic(auto, unfolding(crate::specs::Explaining::sentence))]
 fn put_wide(text: &mut Text, line: u32) -> Result<(), AllocError>
     ensures { OnOk result (text.new ≡ text.old ++ excess_words (Excess.Columns line)) }
 {
@@ -175,17 +174,6 @@ fn put_frozen(text: &mut Text, rows: &BoardRows, squares: &[Square]) -> Result<(
         b"unsolvable: some of these boxes are frozen, not all of them on goals",
     )?;
     put_sentences(text, b"a box is", rows, squares)
-}
-
-/// Appends that nothing was found.
-fn put_sound(text: &mut Text) -> Result<(), AllocError>
-    ensures { (cols : ℕ) (places : List RowPlace) →
-        OnOk result (text.new ≡ text.old ++ remark_words cols places Remark.Sound) }
-{
-    put_sentence(
-        text,
-        b"nothing found against it, which does not say that it can be solved",
-    )
 }
 
 /// Appends the sentences of a remark.
@@ -213,7 +201,12 @@ pub(crate) fn put_remark(
             )
         }
         Remark::Frozen(squares) => put_frozen(text, rows, squares),
-        Remark::Sound => put_sound(text),
+        Remark::Sound => {
+            put_sentence(
+                text,
+                b"nothing found against it, which does not say that it can be solved",
+            )
+        }
     }
 }
 
@@ -269,8 +262,8 @@ fn put_parts(text: &mut Text, parts: bool) -> Result<(), AllocError>
     Ok(())
 }
 
-#[tactic(auto, unfolding(crate::specs::Explaining::broken_line))]
 /// Appends the line of a broken row.
+#[tactic(auto, unfolding(crate::specs::Explaining::broken_line))]
 pub(crate) fn put_broken(text: &mut Text, row: BrokenRow) -> Result<(), AllocError>
     ensures { OnOk result (text.new ≡ text.old ++ broken_line row) }
 {

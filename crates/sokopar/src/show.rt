@@ -1,8 +1,9 @@
 ghost use Rattle.std.specs.Prelude.{◌≡◌, ◌≤◌, length, IfOk};
-ghost use Rattle.sokopar.specs.Report.{no_level, fault_report, IsShown, ReportsOn, IsShowReport};
+ghost use Rattle.sokopar.specs.Report.{no_level, fault_report, IsShown, IsShowReport};
+ghost use Rattle.sokopar.specs.inside.Parts.{HasChosen};
 
 use crate::check::put_fault;
-use crate::listing::{Chosen, level_of};
+use crate::listing::level_of;
 use crate::report::Report;
 use crate::text::Text;
 use grid::{Level, LevelFault};
@@ -30,6 +31,24 @@ pub(crate) fn fault_report(alloc: Global, fault: LevelFault) -> Result<Report, A
     Ok(Report::new(text, 1))
 }
 
+/// Level N of a collection if it is lawful; else the report that there is none, or of its fault.
+#[tactic(auto, using(crate::proofs::Reporting::of_chosen))]
+pub(crate) fn lawful_level(
+    alloc: Global,
+    bytes: &[u8],
+    number: u32,
+) -> Result<Result<Level, Report>, AllocError>
+    requires number { 1 ≤ number }
+    requires bound { length bytes.now ≤ MAX_FILE }
+    ensures { IfOk result (λ found. HasChosen bytes.now number found) }
+{
+    match level_of(alloc, bytes, number)? {
+        None => Ok(Err(no_level(alloc, number)?)),
+        Some(Err(fault)) => Ok(Err(fault_report(alloc, fault)?)),
+        Some(Ok(level)) => Ok(Ok(level)),
+    }
+}
+
 /// The report of showing a level.
 fn shown(alloc: Global, level: &Level) -> Result<Report, AllocError>
     ensures { IfOk result (λ report. IsShown level.now report) }
@@ -39,24 +58,15 @@ fn shown(alloc: Global, level: &Level) -> Result<Report, AllocError>
     Ok(Report::new(text, 0))
 }
 
-/// The report of showing level N.
-fn show_report(alloc: Global, chosen: &Chosen, number: u32) -> Result<Report, AllocError>
-    requires { 1 ≤ number }
-    ensures { IfOk result (λ report. ReportsOn IsShown number chosen.now report) }
-{
-    match chosen {
-        None => no_level(alloc, number),
-        Some(Err(fault)) => fault_report(alloc, *fault),
-        Some(Ok(level)) => shown(alloc, level),
-    }
-}
-
 /// The report of showing level N of a collection.
+#[tactic(auto, using(crate::proofs::Reporting::on_level))]
 pub(crate) fn show_in(alloc: Global, bytes: &[u8], number: u32) -> Result<Report, AllocError>
     requires number { 1 ≤ number }
     requires bound { length bytes.now ≤ MAX_FILE }
     ensures { IfOk result (λ report. IsShowReport number bytes.now report) }
 {
-    let chosen = level_of(alloc, bytes, number)?;
-    show_report(alloc, &chosen, number)
+    match lawful_level(alloc, bytes, number)? {
+        Ok(level) => shown(alloc, &level),
+        Err(report) => Ok(report),
+    }
 }

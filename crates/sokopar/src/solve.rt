@@ -3,16 +3,15 @@ ghost use Rattle.sokopar.specs.OneReport.{IsOnlySolveReport};
 ghost use Rattle.sokopar.specs.Report.{line, too_many_boxes};
 ghost use Rattle.sokopar.specs.Solving.{positions_words, answer_report, IsSolveOf};
 ghost use Rattle.sokopar.specs.Retelling.{solved_text};
-ghost use Rattle.sokopar.specs.inside.Parts.{limit_words, none_within, SolvesOn};
+ghost use Rattle.sokopar.specs.inside.Parts.{limit_words};
 ghost use Rattle.lurd.specs.Text.{bytes_of};
 ghost use Rattle.crew.specs.Configured.{IsWithinLimits};
 
 use crate::best::put_none_within;
 use crate::laws::one_report;
-use crate::listing::{Chosen, level_of};
 use crate::replay::put_counts;
 use crate::report::Report;
-use crate::show::{fault_report, no_level};
+use crate::show::lawful_level;
 use crate::text::Text;
 use crew::{Config, Gate};
 use grid::{Level, Moves};
@@ -88,7 +87,7 @@ fn limit_reached(alloc: Global, limit: u32) -> Result<Report, AllocError>
 
 /// The report that no play solves a level within a cap.
 fn none_within(alloc: Global, cap: Option<u32>, positions: u64) -> Result<Report, AllocError>
-    ensures { IfOk result (λ report. report ≡ none_within cap positions) }
+    ensures { IfOk result (λ report. report ≡ answer_report cap 0 (Answer.NoneWithin positions)) }
 {
     let mut text = Text::new(alloc);
     put_none_within(&mut text, cap)?;
@@ -138,26 +137,6 @@ fn solve_level<R: Threads + Wait + Sync, G: Gate + Sync>(
     }
 }
 
-/// The report of solving level N by a configuration, with a gate for its workers.
-fn solve_report<R: Threads + Wait + Sync, G: Gate + Sync>(
-    rt: &R,
-    alloc: Global,
-    chosen: &Chosen,
-    number: u32,
-    config: Config,
-    gate: &G,
-) -> Result<Report, AllocError>
-    requires number { 1 ≤ number }
-    requires limits { IsWithinLimits config }
-    ensures { IfOk result (λ report. SolvesOn config.cap config.limit number chosen.now report) }
-{
-    match chosen {
-        None => no_level(alloc, number),
-        Some(Err(fault)) => fault_report(alloc, *fault),
-        Some(Ok(level)) => solve_level(rt, alloc, level, config, gate),
-    }
-}
-
 /// The report of solving level N of a collection by a configuration, with a gate for its workers: the only report under
 /// its cap and its limit.
 pub(crate) fn solve_in<R: Threads + Wait + Sync, G: Gate + Sync>(
@@ -174,6 +153,8 @@ pub(crate) fn solve_in<R: Threads + Wait + Sync, G: Gate + Sync>(
     ensures { IfOk result (λ report. IsOnlySolveReport config.cap config.limit number bytes.now report) }
 {
     one_report();
-    let chosen = level_of(alloc, bytes, number)?;
-    solve_report(rt, alloc, &chosen, number, config, gate)
+    match lawful_level(alloc, bytes, number)? {
+        Ok(level) => solve_level(rt, alloc, &level, config, gate),
+        Err(report) => Ok(report),
+    }
 }

@@ -1,6 +1,5 @@
 ghost use Rattle.std.specs.Prelude.{◌≡◌, ◌++◌, OnOk};
-ghost use Rattle.sokopar.specs.Collection.{unsolved_words};
-ghost use Rattle.sokopar.specs.Folder.{count_words};
+ghost use Rattle.sokopar.specs.Collection.{count_words, unsolved_words};
 ghost use Rattle.sokopar.specs.inside.Totals.{AreFewLevels, counted, line_of_solutions, line_of_totals, status_of, totals_of};
 
 use crate::best::put_none_within;
@@ -109,18 +108,13 @@ pub(crate) fn put_totals(
 ) -> Result<(), AllocError>
     ensures { OnOk result (text.new ≡ text.old ++ line_of_totals cap totals) }
 {
-    text.put_number(totals.levels)?;
-    text.put(b" levels, ")?;
-    text.put_number(totals.optimal)?;
-    text.put(b" optimal, ")?;
-    text.put_number(totals.unsolved)?;
-    text.put(b" ")?;
+    put_count(text, totals.levels, b" levels, ")?;
+    put_count(text, totals.optimal, b" optimal, ")?;
+    put_count(text, totals.unsolved, b" ")?;
     put_unsolved(text, cap)?;
     text.put(b", ")?;
-    text.put_number(totals.undecided)?;
-    text.put(b" open, ")?;
-    text.put_number(totals.unjudged)?;
-    text.put(b" not judged\n")
+    put_count(text, totals.undecided, b" open, ")?;
+    put_count(text, totals.unjudged, b" not judged\n")
 }
 
 /// Appends a number and what it counts.

@@ -1,6 +1,7 @@
 -- The parts of what `explain` writes that functions of their own find.
-use Rattle.std.specs.Prelude.{◌≡◌, ℕ, ◌<◌, ◌⊎◌, Bool, true, false, List, [], ◌∷◌, ◌++◌, length, Option, IfSome}
+use Rattle.std.specs.Prelude.{◌≡◌, ℕ, ◌<◌, ◌≤◌, ◌⊎◌, Bool, true, false, List, [], ◌∷◌, ◌++◌, length, Option, IfSome}
 use Rattle.grid.specs.declared.cell.Cell.{Cell}
+use Rattle.grid.specs.declared.limits.TheConstants.{MAX_COLS}
 use Rattle.grid.specs.Board.{Board, box_cell, goal_cell, is_wall, player_cell}
 use Rattle.grid.specs.Lawful.{InRoom}
 use Rattle.grid.specs.Squares.{Squares, contains}
@@ -22,6 +23,12 @@ is_kind Goal = goal_cell
 -- the board that was read
 abbrev pub board_in : BoardRows → Board
 board_in rows = record { cols = rows.cols; cells = rows.cells.items }
+
+-- the board has columns, and no more of them, and no more cells, than the numbers of squares allow
+pub record AreBounded (rows : BoardRows) : Type 0 where
+  pub columns : 1 ≤ rows.cols
+  pub wide : rows.cols ≤ MAX_COLS
+  pub bound : length rows.cells.items ≤ 65535
 
 -- the squares are of the player's room and in the grid
 abbrev pub AreInRoom : Board → Squares → Type 0

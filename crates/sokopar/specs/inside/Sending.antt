@@ -6,7 +6,7 @@ use Rattle.sokopar.specs.Listing.{Listed, IsLevelListing}
 use Rattle.sokopar.specs.Report.{Report, without_first_line}
 use Rattle.sokopar.specs.Runs.{BeginsOrEnds, WritesLines, WritesLinesPart, WritesPart, WritesWhole}
 use Rattle.sokopar.specs.declared.fault.RunFault.{RunFault}
-use Rattle.sokopar.specs.declared.fault.RunFault.TheVariants.{Read, Write, TooLong, OutOfMemory}
+use Rattle.sokopar.specs.declared.fault.RunFault.TheVariants.{Write, OutOfMemory}
 use Rattle.sokopar.specs.declared.reported.Reported.{Reported}
 use Rattle.sokopar.specs.declared.totals.Totals.{Totals}
 use Rattle.sokopar.specs.inside.Totals.{AreFewLevels, counted, totals_of}
@@ -19,10 +19,8 @@ as_written true report = without_first_line report
 -- what writing a report does: the sink takes its text and its status is answered, or a write fails
 abbrev pub Sends : Report → Seen → Seen → Result ℕ RunFault → Type 0
 Sends report old new (Ok status) = WritesWhole old new report.text × (status ≡ report.status)
-Sends report old new (Err Read) = ⊥
 Sends report old new (Err Write) = WritesPart old new report.text
-Sends report old new (Err TooLong) = ⊥
-Sends report old new (Err OutOfMemory) = ⊥
+Sends report old new (Err fault) = ⊥
 
 -- what writing a report line by line does: the sink takes all lines and the status is answered; or a write fails within
 -- a line, after whole lines; or memory is refused, after whole lines
@@ -30,31 +28,27 @@ abbrev pub SendsByLine : (List (List ℕ) → ℕ → Type 0) → (List (List �
     Type 0
 SendsByLine IsReport Begins old new (Ok status) =
     (lines : List (List ℕ)) × IsReport lines status × WritesLines old new lines
-SendsByLine IsReport Begins old new (Err Read) = ⊥
 SendsByLine IsReport Begins old new (Err Write) =
     (lines : List (List ℕ)) × (next : List ℕ) × BeginsOrEnds IsReport Begins (lines ++ next ∷ []) ×
     WritesLinesPart old new lines next
-SendsByLine IsReport Begins old new (Err TooLong) = ⊥
 SendsByLine IsReport Begins old new (Err OutOfMemory) =
     (lines : List (List ℕ)) × Begins lines × WritesLines old new lines
+SendsByLine IsReport Begins old new (Err fault) = ⊥
 
 -- how writing a report line by line stops: a write fails within a line, after whole lines; or memory is refused, after
 -- whole lines
 abbrev pub StopsByLine : (List (List ℕ) → Type 0) → Seen → Seen → RunFault → Type 0
-StopsByLine Begins old new Read = ⊥
 StopsByLine Begins old new Write =
     (lines : List (List ℕ)) × (next : List ℕ) × Begins (lines ++ next ∷ []) × WritesLinesPart old new lines next
-StopsByLine Begins old new TooLong = ⊥
 StopsByLine Begins old new OutOfMemory = (lines : List (List ℕ)) × Begins lines × WritesLines old new lines
+StopsByLine Begins old new fault = ⊥
 
 -- what writing one line does, by the answer of a call that gives something else: the sink takes the line; or a write
 -- fails
 abbrev pub SendsLine : {A : Type 0} → List ℕ → Seen → Seen → Result A RunFault → Type 0
 SendsLine line old new (Ok value) = WritesWhole old new line
-SendsLine line old new (Err Read) = ⊥
 SendsLine line old new (Err Write) = WritesPart old new line
-SendsLine line old new (Err TooLong) = ⊥
-SendsLine line old new (Err OutOfMemory) = ⊥
+SendsLine line old new (Err fault) = ⊥
 
 -- what reporting on level n does: the sink takes a right line, and the totals grow by its kind; or a write fails; or
 -- memory is refused, and nothing is written
@@ -62,11 +56,10 @@ abbrev pub SendsLevel : (ℕ → Listed → Reported → Type 0) → ℕ → Lis
     Type 0
 SendsLevel IsRight n listed totals old new (Ok more) =
     (one : Reported) × IsRight n listed one × WritesWhole old new one.text × (more ≡ counted totals one.kind)
-SendsLevel IsRight n listed totals old new (Err Read) = ⊥
 SendsLevel IsRight n listed totals old new (Err Write) =
     (one : Reported) × IsRight n listed one × WritesPart old new one.text
-SendsLevel IsRight n listed totals old new (Err TooLong) = ⊥
 SendsLevel IsRight n listed totals old new (Err OutOfMemory) = new ≡ old
+SendsLevel IsRight n listed totals old new (Err fault) = ⊥
 
 -- the head line and the lines of all levels of these bytes with numbers in a range were written; the collection has
 -- this number of levels, and these are the totals of those in the range
@@ -87,8 +80,7 @@ pub record SendsLevels (IsRight : ℕ → Listed → Reported → Type 0) (head 
 abbrev pub SendsLast : ℕ → ℕ → List ℕ → ℕ → Seen → Seen → Result ℕ RunFault → Type 0
 SendsLast from count last worst old new (Ok status) =
     (line : List ℕ) × EndsWith from count last worst line status × WritesWhole old new line
-SendsLast from count last worst old new (Err Read) = ⊥
 SendsLast from count last worst old new (Err Write) =
     (line : List ℕ) × (status : ℕ) × EndsWith from count last worst line status × WritesPart old new line
-SendsLast from count last worst old new (Err TooLong) = ⊥
 SendsLast from count last worst old new (Err OutOfMemory) = new ≡ old
+SendsLast from count last worst old new (Err fault) = ⊥

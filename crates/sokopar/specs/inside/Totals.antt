@@ -1,12 +1,12 @@
 -- How many levels have a finding of each kind, as the code counts them.
-use Rattle.std.specs.Prelude.{ℕ, ◌+◌, ◌≤◌, ◌==◌, if◌then◌else◌, cond, List, length, Option}
+use Rattle.std.specs.Prelude.{ℕ, ◌+◌, ◌≤◌, ◌==◌, if◌then◌else◌, cond, List, [], ◌∷◌, length, Option}
 use Rattle.xsb.specs.declared.limits.TheConstants.{MAX_FILE}
 use Rattle.sokopar.specs.Collection.{totals_words}
 use Rattle.sokopar.specs.Folder.{solutions_words}
-use Rattle.sokopar.specs.Levels.{count_of, is_beaten, is_missing, is_optimal, is_out_of_memory, is_undecided}
-use Rattle.sokopar.specs.Levels.{is_unjudged, is_unread, is_unsolved}
-use Rattle.sokopar.specs.Report.{line}
+use Rattle.sokopar.specs.Levels.{count_of, is_one_of}
 use Rattle.sokopar.specs.declared.reported.Kind.{Kind}
+use Rattle.sokopar.specs.declared.reported.Kind.TheVariants.{Optimal, Unsolved, Beaten, Open, OutOfMemory}
+use Rattle.sokopar.specs.declared.reported.Kind.TheVariants.{NotJudged, CannotRead, Missing}
 use Rattle.sokopar.specs.declared.reported.Reported.{Reported}
 use Rattle.sokopar.specs.declared.totals.Totals.{Totals}
 
@@ -14,28 +14,32 @@ use Rattle.sokopar.specs.declared.totals.Totals.{Totals}
 abbrev pub totals_of : List Reported → Totals
 totals_of reported = record {
   levels = length reported;
-  optimal = count_of is_optimal reported;
-  unsolved = count_of is_unsolved reported;
-  beaten = count_of is_beaten reported;
-  undecided = count_of is_undecided reported;
-  out_of_memory = count_of is_out_of_memory reported;
-  unjudged = count_of is_unjudged reported;
-  unread = count_of is_unread reported;
-  missing = count_of is_missing reported;
+  optimal = count_of (Optimal ∷ []) reported;
+  unsolved = count_of (Unsolved ∷ []) reported;
+  beaten = count_of (Beaten ∷ []) reported;
+  undecided = count_of (Open ∷ OutOfMemory ∷ []) reported;
+  out_of_memory = count_of (OutOfMemory ∷ []) reported;
+  unjudged = count_of (NotJudged ∷ CannotRead ∷ []) reported;
+  unread = count_of (CannotRead ∷ []) reported;
+  missing = count_of (Missing ∷ []) reported;
 }
+
+-- how many levels have one of these kinds, with one level more
+abbrev pub count_with : List Kind → Kind → ℕ → ℕ
+count_with kinds kind count = cond (is_one_of kinds kind) (count + 1) count
 
 -- the totals with one level more
 abbrev pub counted : Totals → Kind → Totals
 counted totals kind = record {
   levels = totals.levels + 1;
-  optimal = cond (is_optimal kind) (totals.optimal + 1) totals.optimal;
-  unsolved = cond (is_unsolved kind) (totals.unsolved + 1) totals.unsolved;
-  beaten = cond (is_beaten kind) (totals.beaten + 1) totals.beaten;
-  undecided = cond (is_undecided kind) (totals.undecided + 1) totals.undecided;
-  out_of_memory = cond (is_out_of_memory kind) (totals.out_of_memory + 1) totals.out_of_memory;
-  unjudged = cond (is_unjudged kind) (totals.unjudged + 1) totals.unjudged;
-  unread = cond (is_unread kind) (totals.unread + 1) totals.unread;
-  missing = cond (is_missing kind) (totals.missing + 1) totals.missing;
+  optimal = count_with (Optimal ∷ []) kind totals.optimal;
+  unsolved = count_with (Unsolved ∷ []) kind totals.unsolved;
+  beaten = count_with (Beaten ∷ []) kind totals.beaten;
+  undecided = count_with (Open ∷ OutOfMemory ∷ []) kind totals.undecided;
+  out_of_memory = count_with (OutOfMemory ∷ []) kind totals.out_of_memory;
+  unjudged = count_with (NotJudged ∷ CannotRead ∷ []) kind totals.unjudged;
+  unread = count_with (CannotRead ∷ []) kind totals.unread;
+  missing = count_with (Missing ∷ []) kind totals.missing;
 }
 
 -- no number is greater than the number of levels of a file
@@ -53,8 +57,7 @@ pub record AreFewLevels (totals : Totals) : Type 0 where
 -- the last line of a report that is no table
 abbrev pub line_of_totals : Option ℕ → Totals → List ℕ
 line_of_totals cap totals =
-    line
-    (totals_words cap totals.levels totals.optimal totals.unsolved totals.undecided totals.unjudged)
+    totals_words cap totals.levels totals.optimal totals.unsolved totals.undecided totals.unjudged
 
 -- the last line of a report on the solutions of a folder
 abbrev pub line_of_solutions : Totals → List ℕ

@@ -1,16 +1,14 @@
 -- One level more is explained, or none is left.
-use Rattle.std.proofs.Common.{rules, ℕ, List, [], true, refl, sym, subst, arith}
+use Rattle.std.proofs.Common.{rules, ℕ, List, [], true, sym, subst, arith}
 use Rattle.xsb.specs.inside.Sources.{GivesSource}
-use Rattle.sokopar.specs.Entries.{listed_of}
 use Rattle.sokopar.specs.Explaining.{Explains, none}
-use Rattle.sokopar.specs.inside.Parts.{is_good}
 use Rattle.sokopar.proofs.Explanations.{explained-none, explained-more, explained-all, explained-report, source-of}
 use Rattle.sokopar.proofs.explain.explain_in.Goals as goal
 
 pub boards-init : goal.boards-init
 boards-init c =
     explained-none c.args.bytes.now c.args.wanted c.in-Ok.collection _ _ c.in-Ok.ensures.begins c.in-Ok.ensures.bound c.in-Ok.ensures.at_line (record {
-      text = subst (λ (t : List ℕ). Explains c.args.bytes.now c.args.wanted [] t true) (sym c.new.ensures) none;
+      text = subst (λ (t : List ℕ). Explains c.args.bytes.now c.args.wanted [] t true) (sym c.new-text.ensures) none;
       broken = c.broken_of-broken.ensures;
     })
 
@@ -30,7 +28,7 @@ boards-preserved c =
     (c.in_ok-source.ensures.next c.args.bytes.now founds so_far.checked.so_far.read so_far.at_line) in
     let count = so_far.checked.count in
     explained-more c.next_source.new.self c.in-Some.source c.put_next.new.page c.put_next.new.broken c.good_with-good.result
-    (is_good (listed_of c.in-Some.source.entry)) so_far next (search rules) refl c.good_with-good.ensures
+    so_far next (search rules) c.good_with-good.ensures
     (c.in_ok-put_next.ensures c.args.bytes.now next.0 so_far.checked.listing (omega (arith, count)) next.1 next.4 so_far.page)
 
 pub returns : goal.returns

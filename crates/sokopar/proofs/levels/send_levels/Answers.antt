@@ -8,11 +8,11 @@ use Rattle.sokopar.proofs.levels.send_levels.Goals as goal
 pub returns-in_err-send_line-clause-err : goal.returns-in_err-send_line-clause-err
 returns-in_err-send_line-clause-err g c =
     err_is _ c.from_residual.result c.in_err-send_line.field-0.0 (search rules)
-    (stopped_first _ _ _ _ _ c.in-Ok.collection _ _ _ c.in_err-send_line.field-0.0 c.in-Ok.ensures.begins c.first.ensures c.in_err-send_line.ensures)
+    (stopped_first _ _ _ _ _ c.in-Ok.collection _ _ _ c.in_err-send_line.field-0.0 c.in-Ok.ensures.begins c.head_of.ensures c.in_err-send_line.ensures)
 
 pub boards-init : goal.boards-init
 boards-init g c =
-    reported_none _ _ _ _ _ _ _ _ _ _ c.in-Ok.ensures.begins c.in-Ok.ensures.bound c.first.ensures c.in_ok-send_line.ensures c.new-totals.ensures
+    reported_none _ _ _ _ _ _ _ _ _ _ c.in-Ok.ensures.begins c.in-Ok.ensures.bound c.head_of.ensures c.in_ok-send_line.ensures c.new-totals.ensures
 
 pub returns-in_err-board-clause-err : goal.returns-in_err-board-clause-err
 returns-in_err-board-clause-err g c =

@@ -1,12 +1,9 @@
--- The report on the level that was chosen is that on the level of the number.
+-- The report on the level and the solution, or that of another level.
 use Rattle.sokopar.specs.Report.{IsReplayOf}
-use Rattle.sokopar.proofs.Listings.{text_at, stopped_at}
+use Rattle.sokopar.proofs.Reporting.{text_level}
 use Rattle.sokopar.proofs.replay.replay_in.Goals as goal
 
-pub returns-clause-ok : goal.returns-clause-ok
-returns-clause-ok g c = text_at IsReplayOf c.args.bytes.now c.args.number c.in_ok-chosen.chosen _ _ c.replay_level.result c.in_ok-chosen.ensures
+pub returns-in-Ok-clause-ok : goal.returns-in-Ok-clause-ok
+returns-in-Ok-clause-ok g c =
+    text_level IsReplayOf c.args.bytes.now c.args.number _ c.in-Ok.level _ _ c.replay_level.result c.in_ok-level.ensures c.in-Ok.is
     c.replay_level.ensures.ok
-
-pub returns-clause-err : goal.returns-clause-err
-returns-clause-err g c = stopped_at c.args.bytes.now c.args.number c.in_ok-chosen.chosen _ _ c.replay_level.result c.in_ok-chosen.ensures
-    c.replay_level.ensures.err

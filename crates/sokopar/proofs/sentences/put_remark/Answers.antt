@@ -18,4 +18,4 @@ returns-in-Frozen c = rw c.in-Frozen.is (subst (λ (xs : List ℕ). OnOk c.put_f
     sentences (codes "a box is") c.args.rows.now.cols c.args.rows.now.places.items xs))) c.deref-in-Frozen.ensures.value c.put_frozen.ensures)
 
 pub returns-in-Sound : goal.returns-in-Sound
-returns-in-Sound c = rw c.in-Sound.is (c.put_sound.ensures c.args.rows.now.cols c.args.rows.now.places.items)
+returns-in-Sound c = rw c.in-Sound.is c.put_sentence.ensures
