@@ -1,7 +1,7 @@
 -- What clap finds in the words of a command line.
 use Rattle.std.proofs.Common.{◌≡◌, ◌≢◌, ◌⊎◌, ◌∙◌, ◌==◌, ◌&&◌, ℕ, Bool, true, false, not, List, [], Option, Some, None}
 use Rattle.std.proofs.Common.{Result, Ok, Err, is_some, slice_index, if◌then◌else◌, fold, take, get_or, length, ◌<◌}
-use Rattle.std.proofs.Common.{◌+◌, refl, sym, ap, subst, inl, inr}
+use Rattle.std.proofs.Common.{◌+◌, refl, sym, ap, subst, inl, inr, arith}
 use Rattle.std.proofs.lemmas.List.Sums.{fold_more}
 use Rattle.std.specs.Prelude.{IfOk, IfErr}
 use Rattle.clap.specs.Built.{AddsArg, AddsSubcommand}
@@ -27,10 +27,6 @@ use Rattle.cli.specs.Requests.{Asks, AsksFor, AsksForNone}
 use Rattle.cli.specs.Words.{word_of}
 
 -- the parts of a conjunction
-first_of_both : (x y : Bool) → (x && y) ≡ true → x ≡ true
-first_of_both true y both = refl
-first_of_both false y both = absurd (cc)
-
 last_of_both : (x y : Bool) → (x && y) ≡ true → y ≡ true
 last_of_both true y both = both
 last_of_both false y both = absurd (cc)
@@ -84,7 +80,7 @@ argument_step start old new a xs i d inside adds is before =
 
 -- a subcommand is plain, so it has no global argument
 no_globals : (sub : Command) → (app_of sub).top.is_plain ≡ true → (out-Command sub).has_globals ≡ false
-no_globals sub plain = is_false _ (first_of_both _ _ (last_of_both _ _ (last_of_both _ _ plain)))
+no_globals sub plain = grind arith
 
 command_added : (old sub new : Command) (kind : Subcommand) → AddsSubcommand old sub new
     → app_of sub ≡ record { top = shape_for kind; subs = [] } → app_of new ≡ with_command (app_of old) kind
@@ -154,14 +150,7 @@ named word =
     else Solve
 
 named_word : (s : Subcommand) → named (word_of s) ≡ s
-named_word Check = refl
-named_word Explain = refl
-named_word Show = refl
-named_word Dead = refl
-named_word Replay = refl
-named_word Solve = refl
-named_word Best = refl
-named_word Prove = refl
+named_word s = grind arith
 
 same_word : (s t : Subcommand) → word_of s ≡ word_of t → s ≡ t
 same_word s t same = sym (named_word s) ∙ ap named same ∙ named_word t

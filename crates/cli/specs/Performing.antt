@@ -14,8 +14,9 @@ use Rattle.sokopar.specs.declared.fault.RunFault.{RunFault}
 use Rattle.sokopar.specs.declared.fault.RunFault.TheVariants.{OutOfMemory}
 use Rattle.cli.specs.CommandLine.{IsNoRequest, IsRequestOf}
 use Rattle.cli.specs.declared.request.Request.{Request}
-use Rattle.cli.specs.declared.request.Request.TheVariants.{Check, Explain, Show, Dead, Replay, Solve, Best}
-use Rattle.cli.specs.declared.request.Request.TheVariants.{BestCollection, Prove, ProveCollection}
+use Rattle.cli.specs.declared.request.Task.{Task}
+use Rattle.cli.specs.declared.request.Task.TheVariants.{Check, Explain, Show, Dead, Replay, Solve, Best}
+use Rattle.cli.specs.declared.request.Task.TheVariants.{BestCollection, Prove, ProveCollection}
 use Rattle.cli.specs.declared.trouble.Trouble.{Trouble}
 use Rattle.cli.specs.declared.trouble.Trouble.TheVariants as trouble
 
@@ -44,8 +45,8 @@ module _ {File : Type 0} (opens : List ℕ → File → Type 0) (seen : File →
 
   -- an engine that writes its report line by line ran on the file at this path and on the output, and ended with this
   -- result
-  pub record RunsOnByLine (IsReport : List ℕ → List (List ℕ) → ℕ → Type 0) (Begins : List ℕ → List (List ℕ) → Type 0) (path : List ℕ)
-      (result : Result ℕ RunFault) : Type 0 where
+  pub record RunsOnByLine (IsReport : List ℕ → List (List ℕ) → ℕ → Type 0)
+      (Begins : List ℕ → List (List ℕ) → Type 0) (path : List ℕ) (result : Result ℕ RunFault) : Type 0 where
     pub file : File
     pub read : File
     pub opened : IsOpened opens seen path file
@@ -63,43 +64,31 @@ module _ {File : Type 0} (opens : List ℕ → File → Type 0) (seen : File →
     pub second_opened : IsOpened opens seen second_path second
     pub runs : RunsInTwo IsReport n (seen file) (seen read) (seen second) (seen second_read) output written result
 
-  -- the engine of the request ran on its files with its settings, and ended with this result
-  abbrev pub RunsEngine : Request → Result ℕ RunFault → Type 0
-  RunsEngine (Check file) result = RunsOn IsCheckReport file.now result
-  RunsEngine (Explain file number) result = RunsOn (IsExplainReport number) file.now result
-  RunsEngine (Show file number) result = RunsOn (IsShowReport number) file.now result
-  RunsEngine (Dead file number) result = RunsOn (IsDeadReport number) file.now result
-  RunsEngine (Replay file number solution) result =
-      RunsOnTwo (IsReplayReport number) number file.now solution.now result
-  RunsEngine (Solve file search) result =
-      RunsOn (Written search.lurd (IsOnlySolveReport search.config.cap search.config.limit search.number)) file.now
-      result
-  RunsEngine (Best file search progress) result =
-      RunsOn
-      (Written search.lurd (IsBestReport search.config.moves search.config.cap search.config.limit search.number))
-      file.now result
-  RunsEngine (BestCollection file search progress) result =
-      RunsOnByLine (IsCollectionReport search) (BeginsCollectionReport search) file.now result
-  RunsEngine (Prove file solution search progress) result =
-      RunsOnTwo (WrittenOfTwo search.lurd (IsProveReport search.moves search.limit search.number)) search.number
-      file.now solution.now result
-  RunsEngine (ProveCollection file folder search progress) result =
-      RunsOnByLine (IsSolutionsReport gives_any seen search) (BeginsSolutionsReport gives_any seen search) file.now result
+  -- the engine of the task ran with its settings on the file at this path, and on that of the solution, and ended with
+  -- this result
+  abbrev pub RunsEngine : List ℕ → Task → Result ℕ RunFault → Type 0
+  RunsEngine path Check = RunsOn IsCheckReport path
+  RunsEngine path (Explain number) = RunsOn (IsExplainReport number) path
+  RunsEngine path (Show number) = RunsOn (IsShowReport number) path
+  RunsEngine path (Dead number) = RunsOn (IsDeadReport number) path
+  RunsEngine path (Replay number solution) = RunsOnTwo (IsReplayReport number) number path solution.now
+  RunsEngine path (Solve search) =
+      RunsOn (Written search.lurd (IsOnlySolveReport search.config.cap search.config.limit search.number)) path
+  RunsEngine path (Best search) =
+      RunsOn (Written search.lurd
+      (IsBestReport search.config.moves search.config.cap search.config.limit search.number)) path
+  RunsEngine path (BestCollection search) = RunsOnByLine (IsCollectionReport search) (BeginsCollectionReport search) path
+  RunsEngine path (Prove search solution) =
+      RunsOnTwo (WrittenOfTwo search.lurd (IsProveReport search.moves search.limit search.number)) search.number path
+      solution.now
+  RunsEngine path (ProveCollection search folder) =
+      RunsOnByLine (IsSolutionsReport gives_any seen search) (BeginsSolutionsReport gives_any seen search) path
 
--- a file of the request could not be opened, or memory ran out
-abbrev pub CannotOpenOne : (List ℕ → Type 0) → Request → Trouble → Type 0
-CannotOpenOne refuses (Check file) why = CannotOpen refuses file.now why
-CannotOpenOne refuses (Explain file number) why = CannotOpen refuses file.now why
-CannotOpenOne refuses (Show file number) why = CannotOpen refuses file.now why
-CannotOpenOne refuses (Dead file number) why = CannotOpen refuses file.now why
-CannotOpenOne refuses (Replay file number solution) why =
-    CannotOpen refuses file.now why ⊎ CannotOpen refuses solution.now why
-CannotOpenOne refuses (Solve file search) why = CannotOpen refuses file.now why
-CannotOpenOne refuses (Best file search progress) why = CannotOpen refuses file.now why
-CannotOpenOne refuses (BestCollection file search progress) why = CannotOpen refuses file.now why
-CannotOpenOne refuses (ProveCollection file folder search progress) why = CannotOpen refuses file.now why
-CannotOpenOne refuses (Prove file solution search progress) why =
-    CannotOpen refuses file.now why ⊎ CannotOpen refuses solution.now why
+-- the solution of the task could not be opened, or memory ran out
+abbrev pub CannotOpenSolution : (List ℕ → Type 0) → Task → Trouble → Type 0
+CannotOpenSolution refuses (Replay number solution) why = CannotOpen refuses solution.now why
+CannotOpenSolution refuses (Prove search solution) why = CannotOpen refuses solution.now why
+CannotOpenSolution refuses task why = ⊥
 
 -- how performing ends: as an engine ended, or since a file could not be opened
 abbrev pub EndsBy : (Result ℕ RunFault → Type 0) → (Trouble → Type 0) → Result ℕ Trouble → Type 0
@@ -107,38 +96,38 @@ EndsBy Ran Fails (Ok status) = Ran (Ok status)
 EndsBy Ran Fails (Err (trouble.Run fault)) = Ran (Err fault) ⊎ Fails (trouble.Run fault)
 EndsBy Ran Fails (Err (trouble.Open path)) = Fails (trouble.Open path)
 
--- no engine ran since a file of the request could not be opened, and nothing was written
-abbrev pub OpensNone : (List ℕ → Type 0) → Seen → Seen → Request → Trouble → Type 0
-OpensNone refuses output written request why = CannotOpenOne refuses request why × (written ≡ output)
-
--- what performing a request does, by its result: its engine ran on its files and wrote its report; or one of the files
--- could not be opened, and nothing was written
-abbrev pub Performs : {File : Type 0} → (List ℕ → File → Type 0) → (List ℕ → Type 0) → (File → Seen) → Seen → Seen →
-    Request → Result ℕ Trouble → Type 0
-Performs opens refuses seen output written request result =
-    EndsBy (RunsEngine opens seen output written request) (OpensNone refuses output written request) result
-
 -- the exit status where there is no whole report
 abbrev pub trouble_status : Trouble → ℕ
 trouble_status (trouble.Run OutOfMemory) = 5
 trouble_status other = 3
-
--- the program's exit status for a request: that of the report, or that of the trouble
-abbrev pub Exits : {File : Type 0} → (List ℕ → File → Type 0) → (List ℕ → Type 0) → (File → Seen) → Seen → Seen →
-    Request → ℕ → Type 0
-Exits opens refuses seen output written request status =
-    Performs opens refuses seen output written request (Ok status) ⊎
-    ((why : Trouble) × Performs opens refuses seen output written request (Err why) × (status ≡ trouble_status why))
 
 -- the exit status where no request is performed: memory ran out; or the words are no request, and the program prints
 -- help or the version, finds a fault in the words, or cannot print
 abbrev pub ExitsWithout : List (List ℕ) → ℕ → Type 0
 ExitsWithout words status = (status ≡ 5) ⊎ (IsNoRequest words × ((status ≡ 0) ⊎ (status ≡ 2) ⊎ (status ≡ 3)))
 
--- what the program does for the words of its command line, by its exit status: it performs the request that they are;
--- or it performs none, and no engine writes to the output
-abbrev pub Answers : {File : Type 0} → (List ℕ → File → Type 0) → (List ℕ → Type 0) → (File → Seen) → Seen → Seen →
-    List (List ℕ) → ℕ → Type 0
-Answers opens refuses seen output written words status =
-    ((request : Request) × IsRequestOf words request × Exits opens refuses seen output written request status) ⊎
-    ((written ≡ output) × ExitsWithout words status)
+-- `refuses` says of which paths opening fails
+module _ {File : Type 0} (opens : List ℕ → File → Type 0) (refuses : List ℕ → Type 0) (seen : File → Seen)
+    (output written : Seen) where
+  -- no engine ran since a file of the task could not be opened, and nothing was written
+  abbrev pub OpensNone : List ℕ → Task → Trouble → Type 0
+  OpensNone path task why =
+      (CannotOpen refuses path why ⊎ CannotOpenSolution refuses task why) × (written ≡ output)
+
+  -- what performing a task on the file at this path does, by its result: its engine ran on its files and wrote its
+  -- report; or one of the files could not be opened, and nothing was written
+  abbrev pub Performs : List ℕ → Task → Result ℕ Trouble → Type 0
+  Performs path task result = EndsBy (RunsEngine opens seen output written path task) (OpensNone path task) result
+
+  -- the program's exit status for a request: that of the report, or that of the trouble
+  abbrev pub Exits : Request → ℕ → Type 0
+  Exits request status =
+      Performs request.file.now request.task (Ok status) ⊎
+      ((why : Trouble) × Performs request.file.now request.task (Err why) × (status ≡ trouble_status why))
+
+  -- what the program does for the words of its command line, by its exit status: it performs the request that they
+  -- are; or it performs none, and no engine writes to the output
+  abbrev pub Answers : List (List ℕ) → ℕ → Type 0
+  Answers words status =
+      ((request : Request) × IsRequestOf words request × Exits request status) ⊎
+      ((written ≡ output) × ExitsWithout words status)

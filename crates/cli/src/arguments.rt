@@ -63,7 +63,7 @@ pub enum Argument {
 }
 
 impl Argument {
-    /// What it is, in the help text.
+    /// The argument's line in the help text.
     fn help<'a>(self) -> &'a str {
         match self {
             Argument::File => "A collection of levels",

@@ -5,7 +5,7 @@ ghost use Rattle.crew.specs.Configured.{IsWithinLimits};
 ghost use Rattle.cli.specs.Performing.{Performs};
 
 use crate::meter::Meter;
-use crate::request::Request;
+use crate::request::Task;
 use crate::system::{Solutions, System};
 use crate::trouble::Trouble;
 use crew::Free;
@@ -18,23 +18,22 @@ use std::alloc::Global;
 use std::sync::Wait;
 use std::thread::Threads;
 
-#[tactic(auto, using(crate::proofs::Running::endings))]
 /// Checks a collection.
+#[tactic(auto, using(crate::proofs::Running::endings))]
 pub(crate) fn check<'a, S: System, K: Sink>(
     system: &S,
     alloc: Global,
     file: &'a str,
     sink: &mut K,
 ) -> Result<u8, Trouble<'a>>
-    ensures { Performs S.opens S.refuses S.File.seen (K.seen sink.old) (K.seen sink.new)
-        (Request.Check file.entry) result }
+    ensures { Performs S.opens S.refuses S.File.seen (K.seen sink.old) (K.seen sink.new) file.now Task.Check result }
 {
     let mut source = system.open(file)?;
     Ok(run_check(alloc, &mut source, sink)?)
 }
 
-#[tactic(auto, using(crate::proofs::Running::endings))]
 /// Explains where and why levels are faulty.
+#[tactic(auto, using(crate::proofs::Running::endings))]
 pub(crate) fn explain<'a, S: System, K: Sink>(
     system: &S,
     alloc: Global,
@@ -43,14 +42,14 @@ pub(crate) fn explain<'a, S: System, K: Sink>(
     sink: &mut K,
 ) -> Result<u8, Trouble<'a>>
     ensures { Performs S.opens S.refuses S.File.seen (K.seen sink.old) (K.seen sink.new)
-        (Request.Explain file.entry number) result }
+        file.now (Task.Explain number) result }
 {
     let mut source = system.open(file)?;
     Ok(run_explain(alloc, &mut source, number, sink)?)
 }
 
-#[tactic(auto, using(crate::proofs::Running::endings))]
 /// Shows a level.
+#[tactic(auto, using(crate::proofs::Running::endings))]
 pub(crate) fn show<'a, S: System, K: Sink>(
     system: &S,
     alloc: Global,
@@ -60,14 +59,14 @@ pub(crate) fn show<'a, S: System, K: Sink>(
 ) -> Result<u8, Trouble<'a>>
     requires { 1 ≤ number }
     ensures { Performs S.opens S.refuses S.File.seen (K.seen sink.old) (K.seen sink.new)
-        (Request.Show file.entry number) result }
+        file.now (Task.Show number) result }
 {
     let mut source = system.open(file)?;
     Ok(run_show(alloc, &mut source, number, sink)?)
 }
 
-#[tactic(auto, using(crate::proofs::Running::endings))]
 /// Shows the dead squares of a level.
+#[tactic(auto, using(crate::proofs::Running::endings))]
 pub(crate) fn dead<'a, S: System, K: Sink>(
     system: &S,
     alloc: Global,
@@ -77,14 +76,14 @@ pub(crate) fn dead<'a, S: System, K: Sink>(
 ) -> Result<u8, Trouble<'a>>
     requires { 1 ≤ number }
     ensures { Performs S.opens S.refuses S.File.seen (K.seen sink.old) (K.seen sink.new)
-        (Request.Dead file.entry number) result }
+        file.now (Task.Dead number) result }
 {
     let mut source = system.open(file)?;
     Ok(run_dead(alloc, &mut source, number, sink)?)
 }
 
-#[tactic(auto, using(crate::proofs::Running::endings))]
 /// Replays a solution on a level.
+#[tactic(auto, using(crate::proofs::Running::endings))]
 pub(crate) fn replay<'a, S: System, K: Sink>(
     system: &S,
     alloc: Global,
@@ -95,15 +94,15 @@ pub(crate) fn replay<'a, S: System, K: Sink>(
 ) -> Result<u8, Trouble<'a>>
     requires { 1 ≤ number }
     ensures { Performs S.opens S.refuses S.File.seen (K.seen sink.old) (K.seen sink.new)
-        (Request.Replay file.entry number solution.entry) result }
+        file.now (Task.Replay number solution.entry) result }
 {
     let mut source = system.open(file)?;
     let mut letters = system.open(solution)?;
     Ok(run_replay(alloc, &mut source, number, &mut letters, sink)?)
 }
 
-#[tactic(auto, using(crate::proofs::Running::endings))]
 /// Solves a level.
+#[tactic(auto, using(crate::proofs::Running::endings))]
 pub(crate) fn solve<'a, R: Threads + Wait + Sync, S: System, K: Sink>(
     rt: &R,
     system: &S,
@@ -115,14 +114,14 @@ pub(crate) fn solve<'a, R: Threads + Wait + Sync, S: System, K: Sink>(
     requires number { 1 ≤ search.number }
     requires limits { IsWithinLimits search.config }
     ensures { Performs S.opens S.refuses S.File.seen (K.seen sink.old) (K.seen sink.new)
-        (Request.Solve file.entry search) result }
+        file.now (Task.Solve search) result }
 {
     let mut source = system.open(file)?;
     Ok(run_solve_with(rt, alloc, &mut source, search, &Free, sink)?)
 }
 
-#[tactic(auto, using(crate::proofs::Running::endings))]
 /// Finds a solution with the fewest pushes of a level.
+#[tactic(auto, using(crate::proofs::Running::endings))]
 pub(crate) fn best<'a, R: Eprint + Threads + Sync, S: System, K: Sink>(
     rt: &R,
     system: &S,
@@ -134,15 +133,15 @@ pub(crate) fn best<'a, R: Eprint + Threads + Sync, S: System, K: Sink>(
 ) -> Result<u8, Trouble<'a>>
     requires { 1 ≤ search.number }
     ensures { Performs S.opens S.refuses S.File.seen (K.seen sink.old) (K.seen sink.new)
-        (Request.Best file.entry search progress) result }
+        file.now (Task.Best search) result }
 {
     let mut source = system.open(file)?;
     let mut meter = Meter::new(rt, progress);
     Ok(run_best(rt, alloc, &mut source, search, &mut meter, sink)?)
 }
 
-#[tactic(auto, using(crate::proofs::Running::endings))]
 /// Finds a solution with the fewest pushes of each level of a part of a collection.
+#[tactic(auto, using(crate::proofs::Running::endings))]
 pub(crate) fn best_collection<'a, R: Eprint + Threads + Sync, S: System, K: Sink>(
     rt: &R,
     system: &S,
@@ -153,15 +152,15 @@ pub(crate) fn best_collection<'a, R: Eprint + Threads + Sync, S: System, K: Sink
     sink: &mut K,
 ) -> Result<u8, Trouble<'a>>
     ensures { Performs S.opens S.refuses S.File.seen (K.seen sink.old) (K.seen sink.new)
-        (Request.BestCollection file.entry search progress) result }
+        file.now (Task.BestCollection search) result }
 {
     let mut source = system.open(file)?;
     let mut meter = Meter::new(rt, progress);
     Ok(run_best_collection(rt, alloc, &mut source, search, &mut meter, sink)?)
 }
 
-#[tactic(auto, using(crate::proofs::Running::endings))]
 /// Proves that a solution has the fewest pushes on a level.
+#[tactic(auto, using(crate::proofs::Running::endings))]
 pub(crate) fn prove<'a, R: Eprint + Threads + Sync, S: System, K: Sink>(
     rt: &R,
     system: &S,
@@ -174,7 +173,7 @@ pub(crate) fn prove<'a, R: Eprint + Threads + Sync, S: System, K: Sink>(
 ) -> Result<u8, Trouble<'a>>
     requires { 1 ≤ search.number }
     ensures { Performs S.opens S.refuses S.File.seen (K.seen sink.old) (K.seen sink.new)
-        (Request.Prove file.entry solution.entry search progress) result }
+        file.now (Task.Prove search solution.entry) result }
 {
     let mut source = system.open(file)?;
     let mut letters = system.open(solution)?;
@@ -190,8 +189,8 @@ pub(crate) fn prove<'a, R: Eprint + Threads + Sync, S: System, K: Sink>(
     )?)
 }
 
-#[tactic(auto, using(crate::proofs::Running::endings))]
 /// Proves that each solution of a folder has the fewest pushes on its level of a part of a collection.
+#[tactic(auto, using(crate::proofs::Running::endings))]
 pub(crate) fn prove_collection<'a, R: Eprint + Threads + Sync, S: System, K: Sink>(
     rt: &R,
     system: &S,
@@ -203,7 +202,7 @@ pub(crate) fn prove_collection<'a, R: Eprint + Threads + Sync, S: System, K: Sin
     sink: &mut K,
 ) -> Result<u8, Trouble<'a>>
     ensures { Performs S.opens S.refuses S.File.seen (K.seen sink.old) (K.seen sink.new)
-        (Request.ProveCollection file.entry folder.entry search progress) result }
+        file.now (Task.ProveCollection search folder.entry) result }
 {
     let mut source = system.open(file)?;
     let solutions = Solutions::new(system, alloc, folder);

@@ -20,19 +20,13 @@ pub struct Notes {
 impl Notes {
     /// The texts, with the limits filled in.
     pub fn new(alloc: Global) -> Result<Notes, AllocError> {
-        let program = program_notes(alloc)?;
-        let check = check_notes(alloc)?;
-        let replay = replay_notes(alloc)?;
-        let solve = solve_notes(alloc)?;
-        let best = best_notes(alloc)?;
-        let prove = prove_notes(alloc)?;
         Ok(Notes {
-            program,
-            check,
-            replay,
-            solve,
-            best,
-            prove,
+            program: program_notes(alloc)?,
+            check: check_notes(alloc)?,
+            replay: replay_notes(alloc)?,
+            solve: solve_notes(alloc)?,
+            best: best_notes(alloc)?,
+            prove: prove_notes(alloc)?,
         })
     }
 }

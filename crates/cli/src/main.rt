@@ -23,7 +23,7 @@ mod trouble;
 use clap::error::ErrorKind;
 use commands::{best, best_collection, check, dead, prove, prove_collection, replay, show, solve};
 use help::Notes;
-use request::Request;
+use request::{Request, Task};
 use sokopar::{RunFault, Sink, Writer};
 use std::alloc::Global;
 use std::env::Env;
@@ -39,51 +39,37 @@ use trouble::Trouble;
 /// The exit status of a fault of the command line.
 const USAGE: u8 = 2;
 
-/// Opens all files of a request before it reads the first, and runs its engine, which writes its report to the sink.
+/// Opens the files of a task before it reads the first, and runs its engine, which writes its report to the sink.
 /// Returns the exit status.
 fn perform<'a, R: Eprint + Threads + Wait + Sync, S: System, K: Sink>(
     rt: &R,
     system: &S,
     alloc: Global,
-    request: Request<'a>,
+    file: &'a str,
+    task: Task<'a>,
+    progress: bool,
     sink: &mut K,
 ) -> Result<u8, Trouble<'a>>
-    requires { IsInRange request }
-    ensures { Performs S.opens S.refuses S.File.seen (K.seen sink.old) (K.seen sink.new) request.entry result }
+    requires { IsInRange task }
+    ensures { Performs S.opens S.refuses S.File.seen (K.seen sink.old) (K.seen sink.new) file.now task.entry result }
 {
-    match request {
-        Request::Check { file } => check(system, alloc, file, sink),
-        Request::Explain { file, number } => commands::explain(system, alloc, file, number, sink),
-        Request::Show { file, number } => show(system, alloc, file, number, sink),
-        Request::Dead { file, number } => dead(system, alloc, file, number, sink),
-        Request::Replay {
-            file,
-            number,
-            solution,
-        } => replay(system, alloc, file, number, solution, sink),
-        Request::Solve { file, search } => solve(rt, system, alloc, file, search, sink),
-        Request::Best {
-            file,
-            search,
-            progress,
-        } => best(rt, system, alloc, file, search, progress, sink),
-        Request::BestCollection {
-            file,
-            search,
-            progress,
-        } => best_collection(rt, system, alloc, file, search, progress, sink),
-        Request::Prove {
-            file,
-            solution,
-            search,
-            progress,
-        } => prove(rt, system, alloc, file, solution, search, progress, sink),
-        Request::ProveCollection {
-            file,
-            folder,
-            search,
-            progress,
-        } => prove_collection(rt, system, alloc, file, folder, search, progress, sink),
+    match task {
+        Task::Check => check(system, alloc, file, sink),
+        Task::Explain(number) => commands::explain(system, alloc, file, number, sink),
+        Task::Show(number) => show(system, alloc, file, number, sink),
+        Task::Dead(number) => dead(system, alloc, file, number, sink),
+        Task::Replay { number, solution } => replay(system, alloc, file, number, solution, sink),
+        Task::Solve(search) => solve(rt, system, alloc, file, search, sink),
+        Task::Best(search) => best(rt, system, alloc, file, search, progress, sink),
+        Task::BestCollection(search) => {
+            best_collection(rt, system, alloc, file, search, progress, sink)
+        }
+        Task::Prove { search, solution } => {
+            prove(rt, system, alloc, file, solution, search, progress, sink)
+        }
+        Task::ProveCollection { search, folder } => {
+            prove_collection(rt, system, alloc, file, folder, search, progress, sink)
+        }
     }
 }
 
@@ -95,10 +81,18 @@ fn carry_out<'a, R: Eprint + Threads + Wait + Sync, S: System, K: Sink>(
     request: Request<'a>,
     sink: &mut K,
 ) -> u8
-    requires { IsInRange request }
+    requires { IsInRange request.task }
     ensures { Exits S.opens S.refuses S.File.seen (K.seen sink.old) (K.seen sink.new) request.entry result }
 {
-    match perform(rt, system, alloc, request, sink) {
+    match perform(
+        rt,
+        system,
+        alloc,
+        request.file,
+        request.task,
+        request.progress,
+        sink,
+    ) {
         Ok(status) => status,
         Err(trouble) => complain(rt, trouble),
     }
@@ -130,24 +124,6 @@ fn complain<R: Eprint>(rt: &R, trouble: Trouble<'_>) -> u8
     trouble.status()
 }
 
-/// Carries out the words of the command line, given the last parts of its help texts. Returns the exit status.
-fn answer<R: Print + Eprint + Threads + Wait + Sync, S: System, K: Sink>(
-    rt: &R,
-    system: &S,
-    alloc: Global,
-    words: &[String],
-    notes: &Notes,
-    sink: &mut K,
-) -> u8
-    ensures { Answers S.opens S.refuses S.File.seen (K.seen sink.old) (K.seen sink.new) (map string_bytes words.now)
-        result }
-{
-    match request::parse(alloc, words, notes) {
-        Ok(request) => carry_out(rt, system, alloc, request, sink),
-        Err(error) => explain(rt, error),
-    }
-}
-
 /// Runs the command line of these words, and writes a report to the sink. Returns the exit status.
 fn run<R: Print + Eprint + Threads + Wait + Sync, S: System, K: Sink>(
     rt: &R,
@@ -159,9 +135,12 @@ fn run<R: Print + Eprint + Threads + Wait + Sync, S: System, K: Sink>(
     ensures { Answers S.opens S.refuses S.File.seen (K.seen sink.old) (K.seen sink.new) (map string_bytes words.now)
         result }
 {
-    match Notes::new(alloc) {
-        Ok(notes) => answer(rt, system, alloc, words, &notes, sink),
-        Err(_) => complain(rt, Trouble::Run(RunFault::OutOfMemory)),
+    let Ok(notes) = Notes::new(alloc) else {
+        return complain(rt, Trouble::Run(RunFault::OutOfMemory));
+    };
+    match request::parse(alloc, words, &notes) {
+        Ok(request) => carry_out(rt, system, alloc, request, sink),
+        Err(error) => explain(rt, error),
     }
 }
 

@@ -1,9 +1,9 @@
 //! The texts, the numbers and the flags of a command line.
-ghost use Rattle.std.specs.Prelude.{◌≡◌, ◌==◌, ℕ, false, List, Option, IfOk, OnOk, OnErr, IfSome, IfNone, codes};
-ghost use Rattle.std.specs.Prelude.{slice_index, option_map};
+ghost use Rattle.std.specs.Prelude.{◌≡◌, ◌==◌, ◌≤◌, false, true, Some, None, IfOk, OnOk, OnErr, IfSome, option_map};
+ghost use Rattle.std.specs.Prelude.{slice_index};
 ghost use Rattle.clap.specs.Walk.{first_of};
-ghost use Rattle.cli.specs.Words.{HasFlag, HasNumber, HasNumberOr, HasText, IsNumber, LacksText, MayHaveNumber};
-ghost use Rattle.cli.specs.Words.{found_in};
+ghost use Rattle.cli.specs.Words.{HasFlag, HasNumber, HasText, LacksText, MayHaveNumber, found_in, number_from};
+ghost use Rattle.cli.specs.Words.{number_if_given, number_in};
 ghost use Rattle.cli.specs.declared.arguments.TheConstants.{MOST};
 
 use crate::arguments::MOST;
@@ -14,18 +14,11 @@ use std::alloc::{AllocError, Global};
 #[derive(Clone, Copy, Debug)]
 pub(crate) enum BadArgument<'a> {
     /// The argument, as the usage line shows it, is missing.
-    Missing {
-        argument: &'static str,
-    },
-    /// The argument is given beside one that excludes it.
-    Beside {
-        argument: &'static str,
-        other: &'static str,
-    },
+    Missing(&'static str),
+    /// The first argument is given beside the second, which excludes it.
+    Beside(&'static str, &'static str),
     /// The argument is given without the number of a level.
-    WithoutLevel {
-        argument: &'static str,
-    },
+    WithoutLevel(&'static str),
     /// The text is no number from the least to the greatest one that the argument accepts.
     Number {
         argument: &'static str,
@@ -49,11 +42,11 @@ pub(crate) fn text_of<'a>(
     argument: &'static str,
 ) -> Result<&'a str, BadArgument<'a>>
     ensures ok { IfOk result (λ text. HasText (found_in matches.now) name.now text.now) }
-    ensures err { OnErr result ((text : List ℕ) → ¬ (HasText (found_in matches.now) name.now text)) }
+    ensures err { OnErr result (LacksText (found_in matches.now) name.now) }
 {
     match given(matches, name) {
         Some(text) => Ok(text),
-        None => Err(BadArgument::Missing { argument }),
+        None => Err(BadArgument::Missing(argument)),
     }
 }
 
@@ -67,11 +60,11 @@ fn has_plus(word: &str) -> bool
     }
 }
 
-#[tactic(auto, using(crate::proofs::Digits::no_sign, crate::proofs::Digits::no_number))]
 /// The number that a word writes in decimal digits, if it is in the range.
+#[tactic(auto, using(crate::proofs::Digits::readings))]
 fn number_from(word: &str, least: u32, most: u32) -> Option<u32>
-    ensures some { IfSome result (λ n. IsNumber least most word.now n) }
-    ensures none { IfNone result ((n : ℕ) → ¬ (IsNumber least most word.now n)) }
+    ensures value { number_from least most word.now ≡ result }
+    ensures range { IfSome result (λ n. (least ≤ n) × (n ≤ most)) }
 {
     if has_plus(word) {
         return None;
@@ -86,6 +79,28 @@ fn number_from(word: &str, least: u32, most: u32) -> Option<u32>
     Some(number)
 }
 
+/// The number that the text of an argument writes, if it is in the range; `argument` is its name in the usage line.
+fn number_at<'a>(
+    text: &'a str,
+    argument: &'static str,
+    least: u32,
+    most: u32,
+) -> Result<u32, BadArgument<'a>>
+    ensures ok { IfOk result (λ n. number_from least most text.now ≡ Some n) }
+    ensures err { OnErr result (number_from least most text.now ≡ None) }
+    ensures range { IfOk result (λ n. (least ≤ n) × (n ≤ most)) }
+{
+    match number_from(text, least, most) {
+        Some(number) => Ok(number),
+        None => Err(BadArgument::Number {
+            argument,
+            text,
+            least,
+            most,
+        }),
+    }
+}
+
 /// The number of the argument with this name, at most `most`; `argument` is its name in the usage line.
 pub(crate) fn number_of<'a>(
     matches: &ArgMatches<'a>,
@@ -94,35 +109,31 @@ pub(crate) fn number_of<'a>(
     most: u32,
 ) -> Result<u32, BadArgument<'a>>
     ensures ok { IfOk result (λ n. HasNumber (found_in matches.now) name.now most n) }
-    ensures err { OnErr result ((n : ℕ) → ¬ (HasNumber (found_in matches.now) name.now most n)) }
+    ensures err { OnErr result (number_in (found_in matches.now) name.now most ≡ None) }
+    ensures range { IfOk result (λ n. (1 ≤ n) × (n ≤ most)) }
 {
-    let text = text_of(matches, name, argument)?;
-    match number_from(text, 1, most) {
-        Some(number) => Ok(number),
-        None => Err(BadArgument::Number {
-            argument,
-            text,
-            least: 1,
-            most,
-        }),
+    match given(matches, name) {
+        Some(text) => number_at(text, argument, 1, most),
+        None => Err(BadArgument::Missing(argument)),
     }
 }
 
-/// The number of the argument with this name, at most [`MOST`], or `default` if the argument is left out; `argument` is
-/// its name in the usage line.
-pub(crate) fn number_or<'a>(
+/// The number of the argument with this name, from `least` to [`MOST`], if the argument is given; `argument` is its
+/// name in the usage line.
+pub(crate) fn number_if_given<'a>(
     matches: &ArgMatches<'a>,
     name: &str,
     argument: &'static str,
-    default: u32,
-) -> Result<u32, BadArgument<'a>>
-    ensures ok { IfOk result (λ n. HasNumberOr (found_in matches.now) name.now default MOST n) }
-    ensures err { OnErr result ((n : ℕ) → ¬ (HasNumberOr (found_in matches.now) name.now default MOST n)) }
+    least: u32,
+) -> Result<Option<u32>, BadArgument<'a>>
+    ensures ok { IfOk result (λ number. MayHaveNumber (found_in matches.now) name.now least MOST number) }
+    ensures err { OnErr result (number_if_given (found_in matches.now) name.now least MOST ≡ None) }
 {
-    let Some(_) = given(matches, name) else {
-        return Ok(default);
+    let Some(text) = given(matches, name) else {
+        return Ok(None);
     };
-    number_of(matches, name, argument, MOST)
+    let number = number_at(text, argument, least, MOST)?;
+    Ok(Some(number))
 }
 
 /// Fails if the argument with this name is given, which another one excludes; `argument` and `other` are their names in
@@ -138,7 +149,7 @@ pub(crate) fn lacks<'a>(
 {
     match given(matches, name) {
         None => Ok(()),
-        Some(_) => Err(BadArgument::Beside { argument, other }),
+        Some(_) => Err(BadArgument::Beside(argument, other)),
     }
 }
 
@@ -149,31 +160,11 @@ pub(crate) fn lacks_flag<'a>(
     bad: BadArgument<'a>,
 ) -> Result<(), BadArgument<'a>>
     ensures ok { OnOk result (HasFlag (found_in matches.now) name.now false) }
-    ensures err { OnErr result (¬ (HasFlag (found_in matches.now) name.now false)) }
+    ensures err { OnErr result (HasFlag (found_in matches.now) name.now true) }
 {
     match given(matches, name) {
         Some("true") => Err(bad),
         _ => Ok(()),
-    }
-}
-
-/// The cap on pushes, if `--max-pushes` is given.
-pub(crate) fn cap_of<'a>(matches: &ArgMatches<'a>) -> Result<Option<u32>, BadArgument<'a>>
-    ensures ok { IfOk result (λ cap. MayHaveNumber (found_in matches.now) (codes "max-pushes") MOST cap) }
-    ensures err { OnErr result ((cap : Option ℕ) →
-        ¬ (MayHaveNumber (found_in matches.now) (codes "max-pushes") MOST cap)) }
-{
-    let Some(text) = given(matches, "max-pushes") else {
-        return Ok(None);
-    };
-    match number_from(text, 0, MOST) {
-        Some(cap) => Ok(Some(cap)),
-        None => Err(BadArgument::Number {
-            argument: "--max-pushes <M>",
-            text,
-            least: 0,
-            most: MOST,
-        }),
     }
 }
 
@@ -190,13 +181,13 @@ pub(crate) fn has_flag(matches: &ArgMatches<'_>, name: &str) -> bool
 /// What is wrong with an argument, for the user.
 pub(crate) fn words_of(alloc: Global, bad: BadArgument<'_>) -> Result<String, AllocError> {
     match bad {
-        BadArgument::Missing { argument } => {
+        BadArgument::Missing(argument) => {
             format!(in alloc; "the argument '{argument}' is missing")
         }
-        BadArgument::Beside { argument, other } => {
+        BadArgument::Beside(argument, other) => {
             format!(in alloc; "the argument '{argument}' cannot be used with '{other}'")
         }
-        BadArgument::WithoutLevel { argument } => {
+        BadArgument::WithoutLevel(argument) => {
             format!(in alloc; "the argument '{argument}' cannot be used without '[N]'")
         }
         BadArgument::Number {

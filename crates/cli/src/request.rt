@@ -1,21 +1,19 @@
 //! The request of a command line.
-ghost use Rattle.std.specs.Prelude.{◌≡◌, ◌≢◌, ◌⊎◌, ℕ, List, [], Option, Some, IfOk, IfErr, IfSome, IfNone, OnErr, codes, map};
+ghost use Rattle.std.specs.Prelude.{◌≡◌, ◌≢◌, ◌⊎◌, [], Some, None, IfOk, IfErr, IfSome, IfNone, OnErr, codes, map};
 ghost use Rattle.std.specs.String.{string_bytes};
 ghost use Rattle.clap.specs.Faults.{fault_of};
 ghost use Rattle.clap.specs.Simple.{subcommand_rows_of};
 ghost use Rattle.clap.specs.Values.{kind_of};
 ghost use Rattle.clap.specs.declared.error.kind.ErrorKind.TheVariants.{OutOfMemory};
 ghost use Rattle.cli.specs.CommandLine.{AreMatchesOf, IsNoRequest, IsRequestOf, program};
-ghost use Rattle.cli.specs.Requests.{Asks, AsksFor, AsksForLevel, AsksForLevels, AsksForNone, AsksForSolutions, AsksToProve};
-ghost use Rattle.cli.specs.Requests.{AsksToSolve, HasSettings, MayHaveLevel};
-ghost use Rattle.cli.specs.Words.{HasNumber, HasText, LacksText, found_in, word_of};
+ghost use Rattle.cli.specs.Requests.{Asks, AsksFor, AsksForNone, AsksTask, HasConfig, IsInRange};
+ghost use Rattle.cli.specs.Words.{HasText, LacksText, found_in, number_if_given, number_in, word_of};
 ghost use Rattle.cli.specs.declared.arguments.TheConstants.{MOST, MOST_WORKERS};
 
 use crate::arguments::{MOST, MOST_LOCKS, MOST_WORKERS};
 use crate::help::Notes;
 use crate::numbers::{
-    BadArgument, cap_of, given, has_flag, lacks, lacks_flag, number_of, number_or, text_of,
-    words_of,
+    BadArgument, given, has_flag, lacks, lacks_flag, number_if_given, number_of, text_of, words_of,
 };
 use crate::subcommands::{Subcommand, command, usage_of};
 use clap::error::ErrorKind;
@@ -26,129 +24,61 @@ use sokopar::{
 };
 use std::alloc::{AllocError, Global};
 
-/// The request of a command line. Levels are counted from 1.
+/// The request of a command line.
 #[derive(Clone, Copy, Debug)]
-pub enum Request<'a> {
-    /// Check the levels of a collection.
-    Check {
-        file: &'a str,
-    },
-    /// Explain where and why the levels of a collection, or one of them, are faulty.
-    Explain {
-        file: &'a str,
-        number: Option<u32>,
-    },
-    /// Show a level of a collection.
-    Show {
-        file: &'a str,
-        number: u32,
-    },
-    /// Show the dead squares of a level of a collection.
-    Dead {
-        file: &'a str,
-        number: u32,
-    },
-    /// Replay the text of a solution file on a level of a collection.
+pub struct Request<'a> {
+    /// The path of the collection.
+    pub file: &'a str,
+    pub task: Task<'a>,
+    /// Whether searches show bounds and positions on standard error.
+    pub progress: bool,
+}
+
+/// What to do with the levels of a collection. They are counted from 1.
+#[derive(Clone, Copy, Debug)]
+pub enum Task<'a> {
+    /// Check the levels.
+    Check,
+    /// Explain where and why the levels, or one of them, are faulty.
+    Explain(Option<u32>),
+    /// Show a level.
+    Show(u32),
+    /// Show the dead squares of a level.
+    Dead(u32),
+    /// Replay the text of a solution file on a level.
     Replay {
-        file: &'a str,
         number: u32,
         solution: &'a str,
     },
-    /// Solve a level of a collection.
-    Solve {
-        file: &'a str,
-        search: SolveRequest,
-    },
-    /// Find a solution with the fewest pushes of a level of a collection.
-    Best {
-        file: &'a str,
-        search: BestRequest,
-        progress: bool,
-    },
-    /// Find a solution with the fewest pushes of each level of a part of a collection.
-    BestCollection {
-        file: &'a str,
-        search: CollectionRequest,
-        progress: bool,
-    },
-    /// Prove that the solution of a file has the fewest pushes on a level of a collection.
+    /// Solve a level.
+    Solve(SolveRequest),
+    /// Find a solution with the fewest pushes of a level.
+    Best(BestRequest),
+    /// Find a solution with the fewest pushes of each level of a part of the collection.
+    BestCollection(CollectionRequest),
+    /// Prove that the solution of a file has the fewest pushes on a level.
     Prove {
-        file: &'a str,
-        solution: &'a str,
         search: ProveRequest,
-        progress: bool,
+        solution: &'a str,
     },
-    /// Prove that each solution of a folder has the fewest pushes on its level of a part of a collection.
+    /// Prove that each solution of a folder has the fewest pushes on its level of a part of the collection.
     ProveCollection {
-        file: &'a str,
-        folder: &'a str,
         search: SolutionsRequest,
-        progress: bool,
+        folder: &'a str,
     },
 }
 
-/// The path of the collection.
-fn file_of<'a>(matches: &ArgMatches<'a>) -> Result<&'a str, BadArgument<'a>>
-    ensures ok { IfOk result (λ text. HasText (found_in matches.now) (codes "FILE") text.now) }
-    ensures err { OnErr result ((text : List ℕ) → ¬ (HasText (found_in matches.now) (codes "FILE") text)) }
+/// The task of the arguments of `solve`.
+fn solve_task<'a>(matches: &ArgMatches<'a>) -> Result<Task<'a>, BadArgument<'a>>
+    ensures ok { IfOk result (λ task. AsksTask Subcommand.Solve (found_in matches.now) task) }
+    ensures range { IfOk result (λ task. IsInRange task) }
+    ensures err { OnErr result ((task : Task) → ¬ (AsksTask Subcommand.Solve (found_in matches.now) task)) }
 {
-    text_of(matches, "FILE", "<FILE>")
-}
-
-/// The path of the solution.
-fn solution_of<'a>(matches: &ArgMatches<'a>) -> Result<&'a str, BadArgument<'a>>
-    ensures ok { IfOk result (λ text. HasText (found_in matches.now) (codes "SOLUTION") text.now) }
-    ensures err { OnErr result ((text : List ℕ) → ¬ (HasText (found_in matches.now) (codes "SOLUTION") text)) }
-{
-    text_of(matches, "SOLUTION", "<SOLUTION>")
-}
-
-/// The number of the level.
-fn level_of<'a>(matches: &ArgMatches<'a>) -> Result<u32, BadArgument<'a>>
-    ensures ok { IfOk result (λ n. HasNumber (found_in matches.now) (codes "N") MOST n) }
-    ensures err { OnErr result ((n : ℕ) → ¬ (HasNumber (found_in matches.now) (codes "N") MOST n)) }
-{
-    number_of(matches, "N", "<N>", MOST)
-}
-
-/// The number of the level, if it is given.
-fn level_if_any<'a>(matches: &ArgMatches<'a>) -> Result<Option<u32>, BadArgument<'a>>
-    ensures ok { IfOk result (λ number. MayHaveLevel (found_in matches.now) number) }
-    ensures err { OnErr result ((number : Option ℕ) → ¬ (MayHaveLevel (found_in matches.now) number)) }
-{
-    let Some(_) = given(matches, "N") else {
-        return Ok(None);
-    };
-    let number = level_of(matches)?;
-    Ok(Some(number))
-}
-
-/// The limit of positions.
-fn limit_of<'a>(matches: &ArgMatches<'a>) -> Result<u32, BadArgument<'a>>
-    ensures ok { IfOk result (λ n. HasNumber (found_in matches.now) (codes "limit") MOST n) }
-    ensures err { OnErr result ((n : ℕ) → ¬ (HasNumber (found_in matches.now) (codes "limit") MOST n)) }
-{
-    number_of(matches, "limit", "--limit <L>", MOST)
-}
-
-/// The number of workers.
-fn workers_of<'a>(matches: &ArgMatches<'a>) -> Result<u32, BadArgument<'a>>
-    ensures ok { IfOk result (λ n. HasNumber (found_in matches.now) (codes "workers") MOST_WORKERS n) }
-    ensures err { OnErr result ((n : ℕ) → ¬ (HasNumber (found_in matches.now) (codes "workers") MOST_WORKERS n)) }
-{
-    number_of(matches, "workers", "--workers <W>", MOST_WORKERS)
-}
-
-/// The level and the settings of `solve`.
-fn solve_request<'a>(matches: &ArgMatches<'a>) -> Result<SolveRequest, BadArgument<'a>>
-    ensures ok { IfOk result (λ search. AsksToSolve (found_in matches.now) search) }
-    ensures err { OnErr result ((search : SolveRequest) → ¬ (AsksToSolve (found_in matches.now) search)) }
-{
-    let number = level_of(matches)?;
-    let workers = workers_of(matches)?;
+    let number = number_of(matches, "N", "<N>", MOST)?;
+    let workers = number_of(matches, "workers", "--workers <W>", MOST_WORKERS)?;
     let locks = number_of(matches, "locks", "--locks <K>", MOST_LOCKS)?;
-    let limit = limit_of(matches)?;
-    let cap = cap_of(matches)?;
+    let limit = number_of(matches, "limit", "--limit <L>", MOST)?;
+    let cap = number_if_given(matches, "max-pushes", "--max-pushes <M>", 0)?;
     let config = Config {
         workers: workers as u8,
         locks: locks as u8,
@@ -156,21 +86,24 @@ fn solve_request<'a>(matches: &ArgMatches<'a>) -> Result<SolveRequest, BadArgume
         cap,
     };
     let lurd = has_flag(matches, "lurd");
-    Ok(SolveRequest {
+    Ok(Task::Solve(SolveRequest {
         number,
         config,
         lurd,
-    })
+    }))
 }
 
-/// The settings of a search of `best`.
-fn settings_of<'a>(matches: &ArgMatches<'a>) -> Result<SearchConfig, BadArgument<'a>>
-    ensures ok { IfOk result (λ config. HasSettings (found_in matches.now) config) }
-    ensures err { OnErr result ((config : SearchConfig) → ¬ (HasSettings (found_in matches.now) config)) }
+/// The settings of `best`.
+fn config_of<'a>(matches: &ArgMatches<'a>) -> Result<SearchConfig, BadArgument<'a>>
+    ensures ok { IfOk result (λ config. HasConfig (found_in matches.now) config) }
+    ensures err { OnErr result (
+        (number_in (found_in matches.now) (codes "workers") MOST_WORKERS ≡ None) ⊎
+        (number_in (found_in matches.now) (codes "limit") MOST ≡ None) ⊎
+        (number_if_given (found_in matches.now) (codes "max-pushes") 0 MOST ≡ None)) }
 {
-    let workers = workers_of(matches)?;
-    let limit = limit_of(matches)?;
-    let cap = cap_of(matches)?;
+    let workers = number_of(matches, "workers", "--workers <W>", MOST_WORKERS)?;
+    let limit = number_of(matches, "limit", "--limit <L>", MOST)?;
+    let cap = number_if_given(matches, "max-pushes", "--max-pushes <M>", 0)?;
     let moves = has_flag(matches, "moves");
     Ok(SearchConfig {
         workers: workers as u8,
@@ -180,198 +113,149 @@ fn settings_of<'a>(matches: &ArgMatches<'a>) -> Result<SearchConfig, BadArgument
     })
 }
 
-/// The level and the settings of `best`, if the number of a level is given.
-fn level_request<'a>(matches: &ArgMatches<'a>) -> Result<BestRequest, BadArgument<'a>>
-    ensures ok { IfOk result (λ search. AsksForLevel (found_in matches.now) search) }
-    ensures err { OnErr result ((search : BestRequest) → ¬ (AsksForLevel (found_in matches.now) search)) }
+/// The task of the arguments of `best`.
+fn best_task<'a>(matches: &ArgMatches<'a>) -> Result<Task<'a>, BadArgument<'a>>
+    ensures ok { IfOk result (λ task. AsksTask Subcommand.Best (found_in matches.now) task) }
+    ensures range { IfOk result (λ task. IsInRange task) }
+    ensures err { OnErr result ((task : Task) → ¬ (AsksTask Subcommand.Best (found_in matches.now) task)) }
 {
-    let number = level_of(matches)?;
-    lacks(matches, "from", "--from <A>", "[N]")?;
-    lacks(matches, "to", "--to <B>", "[N]")?;
-    let argument = "--table";
-    let other = "[N]";
-    lacks_flag(matches, "table", BadArgument::Beside { argument, other })?;
-    let config = settings_of(matches)?;
-    let lurd = has_flag(matches, "lurd");
-    Ok(BestRequest {
-        number,
-        config,
-        lurd,
-    })
-}
-
-/// The range of levels and the settings of `best`, if no number of a level is given.
-fn levels_request<'a>(matches: &ArgMatches<'a>) -> Result<CollectionRequest, BadArgument<'a>>
-    requires { LacksText (found_in matches.now) (codes "N") }
-    ensures ok { IfOk result (λ search. AsksForLevels (found_in matches.now) search) }
-    ensures err { OnErr result ((search : CollectionRequest) → ¬ (AsksForLevels (found_in matches.now) search)) }
-{
-    let argument = "--lurd";
-    lacks_flag(matches, "lurd", BadArgument::WithoutLevel { argument })?;
-    let from = number_or(matches, "from", "--from <A>", 1)?;
-    let to = number_or(matches, "to", "--to <B>", MOST)?;
-    let config = settings_of(matches)?;
-    let table = has_flag(matches, "table");
-    Ok(CollectionRequest {
-        from,
-        to,
-        table,
-        config,
-    })
-}
-
-#[tactic(auto, using(crate::proofs::Asking::asks_nothing_of_best))]
-/// The request of the arguments of `best` on this collection.
-fn best_request<'a>(file: &'a str, matches: &ArgMatches<'a>) -> Result<Request<'a>, BadArgument<'a>>
-    requires { HasText (found_in matches.now) (codes "FILE") file.now }
-    ensures ok { IfOk result (λ request. Asks Subcommand.Best (found_in matches.now) request) }
-    ensures err { OnErr result ((request : Request) → ¬ (Asks Subcommand.Best (found_in matches.now) request)) }
-{
-    let progress = has_flag(matches, "progress");
     match given(matches, "N") {
         Some(_) => {
-            let search = level_request(matches)?;
-            Ok(Request::Best {
-                file,
-                search,
-                progress,
-            })
+            let number = number_of(matches, "N", "<N>", MOST)?;
+            lacks(matches, "from", "--from <A>", "[N]")?;
+            lacks(matches, "to", "--to <B>", "[N]")?;
+            lacks_flag(matches, "table", BadArgument::Beside("--table", "[N]"))?;
+            let config = config_of(matches)?;
+            let lurd = has_flag(matches, "lurd");
+            Ok(Task::Best(BestRequest {
+                number,
+                config,
+                lurd,
+            }))
         }
         None => {
-            let search = levels_request(matches)?;
-            Ok(Request::BestCollection {
-                file,
-                search,
-                progress,
-            })
+            lacks_flag(matches, "lurd", BadArgument::WithoutLevel("--lurd"))?;
+            let from = number_if_given(matches, "from", "--from <A>", 1)?.unwrap_or(1);
+            let to = number_if_given(matches, "to", "--to <B>", 1)?.unwrap_or(MOST);
+            let config = config_of(matches)?;
+            let table = has_flag(matches, "table");
+            Ok(Task::BestCollection(CollectionRequest {
+                from,
+                to,
+                table,
+                config,
+            }))
         }
     }
 }
 
-/// The level and the settings of `prove`.
-fn prove_request<'a>(matches: &ArgMatches<'a>) -> Result<ProveRequest, BadArgument<'a>>
+/// The task of the arguments of `prove` without a folder.
+fn prove_task<'a>(matches: &ArgMatches<'a>) -> Result<Task<'a>, BadArgument<'a>>
     requires { LacksText (found_in matches.now) (codes "solutions") }
-    ensures ok { IfOk result (λ search. AsksToProve (found_in matches.now) search) }
-    ensures err { OnErr result ((search : ProveRequest) → ¬ (AsksToProve (found_in matches.now) search)) }
+    ensures ok { IfOk result (λ task. AsksTask Subcommand.Prove (found_in matches.now) task) }
+    ensures range { IfOk result (λ task. IsInRange task) }
+    ensures err { OnErr result ((task : Task) → ¬ (AsksTask Subcommand.Prove (found_in matches.now) task)) }
 {
-    let number = level_of(matches)?;
-    let workers = workers_of(matches)?;
-    let limit = limit_of(matches)?;
-    let moves = has_flag(matches, "moves");
+    let solution = text_of(matches, "SOLUTION", "<SOLUTION>")?;
+    let number = number_of(matches, "N", "<N>", MOST)?;
+    let workers = number_of(matches, "workers", "--workers <W>", MOST_WORKERS)?;
+    let limit = number_of(matches, "limit", "--limit <L>", MOST)?;
     lacks(matches, "from", "--from <A>", "[N]")?;
     lacks(matches, "to", "--to <B>", "[N]")?;
-    let argument = "--table";
-    let other = "[N]";
-    lacks_flag(matches, "table", BadArgument::Beside { argument, other })?;
-    let lurd = has_flag(matches, "lurd");
-    Ok(ProveRequest {
+    lacks_flag(matches, "table", BadArgument::Beside("--table", "[N]"))?;
+    let search = ProveRequest {
         number,
         workers: workers as u8,
         limit,
-        moves,
-        lurd,
-    })
+        moves: has_flag(matches, "moves"),
+        lurd: has_flag(matches, "lurd"),
+    };
+    Ok(Task::Prove { search, solution })
 }
 
-/// The range of levels and the settings of `prove` for the solutions of a folder.
-fn solutions_request<'a>(matches: &ArgMatches<'a>) -> Result<SolutionsRequest, BadArgument<'a>>
-    ensures ok { IfOk result (λ search. AsksForSolutions (found_in matches.now) search) }
-    ensures err { OnErr result ((search : SolutionsRequest) → ¬ (AsksForSolutions (found_in matches.now) search)) }
+/// The task of the arguments of `prove` for the solutions of this folder.
+fn solutions_task<'a>(
+    folder: &'a str,
+    matches: &ArgMatches<'a>,
+) -> Result<Task<'a>, BadArgument<'a>>
+    requires { HasText (found_in matches.now) (codes "solutions") folder.now }
+    ensures ok { IfOk result (λ task. AsksTask Subcommand.Prove (found_in matches.now) task) }
+    ensures range { IfOk result (λ task. IsInRange task) }
+    ensures err { OnErr result ((task : Task) → ¬ (AsksTask Subcommand.Prove (found_in matches.now) task)) }
 {
     lacks(matches, "N", "[N]", "--solutions <FOLDER>")?;
     lacks(matches, "SOLUTION", "[SOLUTION]", "--solutions <FOLDER>")?;
-    let argument = "--lurd";
-    lacks_flag(matches, "lurd", BadArgument::WithoutLevel { argument })?;
-    let from = number_or(matches, "from", "--from <A>", 1)?;
-    let to = number_or(matches, "to", "--to <B>", MOST)?;
-    let workers = workers_of(matches)?;
-    let limit = limit_of(matches)?;
-    let moves = has_flag(matches, "moves");
-    let table = has_flag(matches, "table");
-    Ok(SolutionsRequest {
+    lacks_flag(matches, "lurd", BadArgument::WithoutLevel("--lurd"))?;
+    let from = number_if_given(matches, "from", "--from <A>", 1)?.unwrap_or(1);
+    let to = number_if_given(matches, "to", "--to <B>", 1)?.unwrap_or(MOST);
+    let workers = number_of(matches, "workers", "--workers <W>", MOST_WORKERS)?;
+    let limit = number_of(matches, "limit", "--limit <L>", MOST)?;
+    let search = SolutionsRequest {
         from,
         to,
-        table,
+        table: has_flag(matches, "table"),
         workers: workers as u8,
         limit,
-        moves,
-    })
+        moves: has_flag(matches, "moves"),
+    };
+    Ok(Task::ProveCollection { search, folder })
 }
 
-#[tactic(auto, using(crate::proofs::Asking::asks_nothing_of_prove))]
-/// The request of the arguments of `prove` on this collection.
-fn proof_request<'a>(
-    file: &'a str,
+/// The task of the arguments of a subcommand.
+fn task_of<'a>(
+    subcommand: Subcommand,
     matches: &ArgMatches<'a>,
-) -> Result<Request<'a>, BadArgument<'a>>
-    requires { HasText (found_in matches.now) (codes "FILE") file.now }
-    ensures ok { IfOk result (λ request. Asks Subcommand.Prove (found_in matches.now) request) }
-    ensures err { OnErr result ((request : Request) → ¬ (Asks Subcommand.Prove (found_in matches.now) request)) }
+) -> Result<Task<'a>, BadArgument<'a>>
+    ensures ok { IfOk result (λ task. AsksTask subcommand (found_in matches.now) task) }
+    ensures range { IfOk result (λ task. IsInRange task) }
+    ensures err { OnErr result ((task : Task) → ¬ (AsksTask subcommand (found_in matches.now) task)) }
 {
-    let progress = has_flag(matches, "progress");
-    match given(matches, "solutions") {
-        Some(folder) => {
-            let search = solutions_request(matches)?;
-            Ok(Request::ProveCollection {
-                file,
-                folder,
-                search,
-                progress,
-            })
+    match subcommand {
+        Subcommand::Check => Ok(Task::Check),
+        Subcommand::Explain => {
+            let number = number_if_given(matches, "N", "<N>", 1)?;
+            Ok(Task::Explain(number))
         }
-        None => {
-            let solution = solution_of(matches)?;
-            let search = prove_request(matches)?;
-            Ok(Request::Prove {
-                file,
-                solution,
-                search,
-                progress,
-            })
+        Subcommand::Show => {
+            let number = number_of(matches, "N", "<N>", MOST)?;
+            Ok(Task::Show(number))
         }
+        Subcommand::Dead => {
+            let number = number_of(matches, "N", "<N>", MOST)?;
+            Ok(Task::Dead(number))
+        }
+        Subcommand::Replay => {
+            let number = number_of(matches, "N", "<N>", MOST)?;
+            let solution = text_of(matches, "SOLUTION", "<SOLUTION>")?;
+            Ok(Task::Replay { number, solution })
+        }
+        Subcommand::Solve => solve_task(matches),
+        Subcommand::Best => best_task(matches),
+        Subcommand::Prove => match given(matches, "solutions") {
+            Some(folder) => solutions_task(folder, matches),
+            None => prove_task(matches),
+        },
     }
 }
 
-#[tactic(auto, using(crate::proofs::Asking::asks_nothing))]
 /// The request of the arguments of a subcommand.
+#[tactic(auto, using(crate::proofs::Asking::no_task))]
 fn request_of<'a>(
     subcommand: Subcommand,
     matches: &ArgMatches<'a>,
 ) -> Result<Request<'a>, BadArgument<'a>>
     ensures ok { IfOk result (λ request. Asks subcommand (found_in matches.now) request) }
+    ensures range { IfOk result (λ request. IsInRange request.task) }
     ensures err { OnErr result ((request : Request) → ¬ (Asks subcommand (found_in matches.now) request)) }
 {
-    let file = file_of(matches)?;
-    match subcommand {
-        Subcommand::Check => Ok(Request::Check { file }),
-        Subcommand::Explain => {
-            let number = level_if_any(matches)?;
-            Ok(Request::Explain { file, number })
-        }
-        Subcommand::Show => {
-            let number = level_of(matches)?;
-            Ok(Request::Show { file, number })
-        }
-        Subcommand::Dead => {
-            let number = level_of(matches)?;
-            Ok(Request::Dead { file, number })
-        }
-        Subcommand::Replay => {
-            let number = level_of(matches)?;
-            let solution = solution_of(matches)?;
-            Ok(Request::Replay {
-                file,
-                number,
-                solution,
-            })
-        }
-        Subcommand::Solve => {
-            let search = solve_request(matches)?;
-            Ok(Request::Solve { file, search })
-        }
-        Subcommand::Best => best_request(file, matches),
-        Subcommand::Prove => proof_request(file, matches),
-    }
+    let file = text_of(matches, "FILE", "<FILE>")?;
+    let task = task_of(subcommand, matches)?;
+    let progress = has_flag(matches, "progress");
+    Ok(Request {
+        file,
+        task,
+        progress,
+    })
 }
 
 /// The error that names an argument that is missing or whose text it does not accept, with the usage line of the
@@ -400,10 +284,11 @@ fn chosen<'m, 'a>(matches: &'m ArgMatches<'a>) -> Option<(Subcommand, &'m ArgMat
     Some((Subcommand::named(word)?, inner))
 }
 
-#[tactic(auto, using(crate::proofs::Parsing::refuses))]
 /// The request of the matches of the command line. An error is out of memory, or they ask for no request.
+#[tactic(auto, using(crate::proofs::Parsing::refuses))]
 fn asked<'a>(alloc: Global, matches: &ArgMatches<'a>, notes: &Notes) -> Result<Request<'a>, Error>
     ensures ok { IfOk result (λ request. AsksFor (subcommand_rows_of matches.now) request) }
+    ensures range { IfOk result (λ request. IsInRange request.task) }
     ensures err { IfErr result (λ error. (kind_of error ≡ OutOfMemory) ⊎ AsksForNone (subcommand_rows_of matches.now)) }
 {
     match chosen(matches) {
@@ -493,6 +378,7 @@ fn matches_of<'a>(
 /// says whether help or the version was requested. It is out of memory, or the words are no request.
 pub fn parse<'a>(alloc: Global, words: &'a [String], notes: &'a Notes) -> Result<Request<'a>, Error>
     ensures ok { IfOk result (λ request. IsRequestOf (map string_bytes words.now) request) }
+    ensures range { IfOk result (λ request. IsInRange request.task) }
     ensures err { IfErr result (λ error. (kind_of error ≡ OutOfMemory) ⊎ IsNoRequest (map string_bytes words.now)) }
 {
     let matches = matches_of(alloc, words, notes)?;

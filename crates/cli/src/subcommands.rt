@@ -54,7 +54,7 @@ impl Subcommand {
         }
     }
 
-    /// Its word.
+    /// The word of the subcommand.
     fn word<'a>(self) -> &'a str
         ensures { result.now ≡ word_of self }
     {
@@ -70,7 +70,7 @@ impl Subcommand {
         }
     }
 
-    /// Its line in the help text.
+    /// The subcommand's line in the help text.
     fn about<'a>(self) -> &'a str {
         match self {
             Subcommand::Check => "Checks each level",
@@ -99,7 +99,7 @@ impl Subcommand {
         }
     }
 
-    /// Its arguments, in the order of the help text.
+    /// The subcommand's arguments, in the order of the help text.
     fn arguments(self) -> &'static [Argument]
         ensures { result.now ≡ arguments_of self }
     {
@@ -147,7 +147,7 @@ impl Subcommand {
         }
     }
 
-    /// Its command line without arguments, with the last part of its help text.
+    /// The subcommand as a command of clap without arguments, with the last part of its help text.
     fn bare_command<'a>(self, alloc: Global, notes: &'a Notes) -> Command<'a>
         ensures { app_of result ≡ new_app (word_of self) }
     {
@@ -158,7 +158,7 @@ impl Subcommand {
         }
     }
 
-    /// Its command line, with the last part of its help text.
+    /// The subcommand as a command of clap, with the last part of its help text.
     pub(crate) fn command<'a>(
         self,
         alloc: Global,
