@@ -1,4 +1,4 @@
--- Counts: decimal digits that say how often what stands right after them is meant.
+-- Counts: decimal digits that say how often the byte right after them is repeated.
 use Rattle.std.specs.Prelude.{◌≡◌, ℕ, ◌-◌, ◌≤◌, Bool, true, false, ◌⊎◌, List, [], ◌∷◌, length, map}
 use Rattle.std.specs.Char.{is_ascii_digit}
 use Rattle.std.specs.Int.Digits.{number_from_digits}
@@ -23,7 +23,7 @@ pub record IsCount (digits : List ℕ) : Type 0 where
   pub short : length digits ≤ 4
   pub positive : 1 ≤ decimal digits
 
--- how often what stands after these digits is meant: once where there are none
+-- how often the byte after these digits is repeated: once if there are none
 abbrev pub repeats : List ℕ → ℕ
 repeats [] = 1
 repeats (b ∷ bs) = decimal (b ∷ bs)

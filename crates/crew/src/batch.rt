@@ -155,7 +155,7 @@ pub(crate) fn expand_each<'a>(
     }
 }
 
-// Makes a parcel that of a rank, and deals its successors to the shares of the books.
+// Fills a parcel with the successors of a rank, and deals them to the shares of the books.
 fn expand_into<'a>(
     shared: &Shared<'_, 'a>,
     rank: u64,

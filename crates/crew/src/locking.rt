@@ -70,10 +70,7 @@ fn with_free_lock<T, A, F: Fn(&mut T) -> A>(lock: &Mutex<T>, job: &F) -> Option<
     ensures { IfSome result
         (λ answer. (before : T) × (after : T) × Leaves F.Fn job.now before answer after) }
 {
-    match lock.try_lock() {
-        Some(guard) => Some(with_guard(guard, job)),
-        None => None,
-    }
+    Some(with_guard(lock.try_lock()?, job))
 }
 
 // Enters the pending successors of the worker's own book, and returns `true`. It returns `false` if they are fewer than

@@ -62,8 +62,8 @@ pub record DrawsUntil (may_answer : ℕ → Bool → Bool) (hand : Hand) (nth : 
   pub draws : length later.numbers ≡ length hand.numbers + drawn
   pub until : GoesOnUntil may_answer nth drawn after end
 
--- the ranks that a worker's hand has drawn since are some that it has handed back to each book, and this number that
--- are left to hand back; its events are the draws of all of them, and for each of the former and each book one
+-- since `hand` a worker has drawn `done` ranks, which it has handed back to each book, and `left` ranks, which it has
+-- not; its events are the draws of all, and one for each of the `done` ranks and each book
 pub record HasLeft (may_answer : ℕ → Bool → Bool) (books left : ℕ) (hand later : Hand) (after : ℕ) : Type 0 where
   pub done : ℕ
   pub all : length later.numbers ≡ length hand.numbers + done + left
