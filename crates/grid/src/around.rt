@@ -10,7 +10,7 @@ use crate::square::Square;
 use std::alloc::{AllocError, Global};
 
 /// A square for each direction.
-#[derive(Clone, Copy, PartialEq, Eq, Debug)]
+#[derive(Clone, Copy, PartialEq, Eq)]
 pub(crate) struct Around {
     pub(crate) d: Square,
     pub(crate) l: Square,

@@ -13,7 +13,7 @@ use std::alloc::{AllocError, Global};
 use std::marker::Model;
 
 /// A lawful board: a level without the tables that a search needs.
-#[derive(Debug, Drop)]
+#[derive(Drop)]
 pub struct Board {
     cols: usize,
     rows: usize,

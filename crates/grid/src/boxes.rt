@@ -14,7 +14,7 @@ const SQUARE_NUMBERS: usize = 1 << 16;
 
 /// The boxes of a state, in any number. Moving a box takes no memory, also if the state is played on a level with more
 /// squares than the one in which it began.
-#[derive(Debug, Drop)]
+#[derive(Drop)]
 pub(crate) struct Boxes {
     // for each number of a square, whether a box is on it
     flags: Vec<bool>,

@@ -20,7 +20,7 @@ use std::marker::Model;
 /// A lawful level: one player, at least one box, as many boxes as goals, and no way from the player to the edge of
 /// the grid. It is a [`Board`] with the tables that a search needs: the neighbours of each square, so that a step needs
 /// no division, and a mask of the player's room, so that a flood works on words.
-#[derive(Debug, Drop)]
+#[derive(Drop)]
 pub struct Level {
     board: Board,
     around: Vec<Around>,

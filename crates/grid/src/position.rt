@@ -15,7 +15,7 @@ use std::alloc::AllocError;
 use std::marker::Model;
 
 /// The squares of the boxes, in rising order, and the player's square. Positions are compared by the boxes first.
-#[derive(PartialEq, Eq, PartialOrd, Ord, Debug, Drop)]
+#[derive(PartialEq, Eq, PartialOrd, Ord, Drop)]
 pub struct Position {
     boxes: ArrayVec<Square, MAX_BOXES>,
     player: Square,

@@ -22,7 +22,7 @@ pub enum Step {
 }
 
 /// A state of a level: the squares of its boxes, in any number, and the player's square.
-#[derive(Debug, Drop)]
+#[derive(Drop)]
 pub struct State {
     boxes: Boxes,
     player: Square,

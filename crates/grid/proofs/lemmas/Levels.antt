@@ -8,9 +8,9 @@ use Rattle.grid.specs.declared.dir.Dir.{Dir}
 use Rattle.grid.specs.declared.cell.Cell.{Cell}
 use Rattle.grid.specs.declared.cell.Cell.TheVariants.{Wall, Floor, Goal, Box, BoxOnGoal, Player, PlayerOnGoal}
 use Rattle.grid.specs.declared.state.Step.{Step}
-use Rattle.grid.specs.Squares.{contains, places_from}
+use Rattle.grid.specs.Squares.{places_from}
 use Rattle.grid.specs.Board.{Board, Scene, is_wall, wall_cell, box_cell, player_cell, start, start_player}
-use Rattle.grid.specs.States.{IsScene, Steps, FitsLevel, has_box, start_boxes}
+use Rattle.grid.specs.States.{IsScene, Steps, FitsLevel, start_boxes}
 use Rattle.grid.specs.Lawful.{IsLevel, row_count, box_count, goal_count, player_count, cell_fault}
 use Rattle.grid.specs.inside.Counting.{count_fault}
 use Rattle.grid.proofs.lemmas.Places.{is_rising-places_from, contains-places, contains-first, length-places_from}
@@ -107,11 +107,6 @@ player_no_box Box e = absurd (false≢true e)
 player_no_box BoxOnGoal e = absurd (false≢true e)
 player_no_box Player e = refl
 player_no_box PlayerOnGoal e = refl
-
--- a box stands at the start where the cell has one
-pub contains-start_boxes : (board : Board) (q : ℕ) → contains (start_boxes board) q ≡ has_box board q
-unfolding has_box
-contains-start_boxes board q = contains-places box_cell board.cells q Wall refl
 
 -- the number of boxes at the start
 pub length-start_boxes : (board : Board) → length (start_boxes board) ≡ box_count board

@@ -1,5 +1,5 @@
 -- Laws of the orders of directions, pushes, lists and solutions.
-use Rattle.std.proofs.Common.{◌≡◌, ℕ, suc, ◌+◌, ◌<◌, ◌≤◌, false, List, [], ◌∷◌, ◌++◌, length, ◌⊎◌, inl, inr, refl, sym}
+use Rattle.std.proofs.Common.{◌≡◌, ℕ, ◌+◌, ◌<◌, ◌≤◌, false, List, [], ◌∷◌, ◌++◌, length, ◌⊎◌, inl, inr, refl, sym}
 use Rattle.std.proofs.Common.{ap, ◌∙◌, arith, Ordering, Less, Equal, Greater, nat_cmp, is_gt}
 use Rattle.std.specs.Ordering.{ordering_then, ordering_reverse}
 use Rattle.std.specs.Cmp.{IsTotalOrder}
@@ -41,12 +41,6 @@ pub then-assoc : (a b c : Ordering) → ordering_then (ordering_then a b) c ≡ 
 then-assoc Less b c = refl
 then-assoc Equal b c = refl
 then-assoc Greater b c = refl
-
--- an order that tells nothing apart adds nothing
-pub then-none : (a : Ordering) → ordering_then a Equal ≡ a
-then-none Less = refl
-then-none Equal = refl
-then-none Greater = refl
 
 -- what comes first in the first of two orders comes first in both, one after the other
 pub then-less : (a b : Ordering) → a ≡ Less → ordering_then a b ≡ Less
@@ -94,10 +88,6 @@ pub not_gt_itself : {K : Type 0} {C : K → K → Ordering} → IsTotalOrder C �
 not_gt_itself {C = C} order x = not_gt_since_equal (C x x) (tied_itself order x)
 
 -- ---- numbers
-
--- numbers are ordered as those before them
-pub nat_cmp-suc : (m n : ℕ) → nat_cmp (suc m) (suc n) ≡ nat_cmp m n
-nat_cmp-suc m n = grind (arith, nat_tests)
 
 -- the lesser number comes first
 pub nat_cmp-less : (m n : ℕ) → m < n → nat_cmp m n ≡ Less
@@ -162,13 +152,6 @@ slice_cmp-append C (x ∷ xs) [] us vs e = absurd (omega arith)
 slice_cmp-append C (x ∷ xs) (y ∷ ys) us vs e =
     ap (λ (o : Ordering). ordering_then (C x y) o) (slice_cmp-append C xs ys us vs (omega arith))
     ∙ sym (then-assoc (C x y) (slice_cmp C xs ys) (slice_cmp C us vs))
-
--- one more element behind each of two lists of one length
-pub slice_cmp-push : {K : Type 0} (C : K → K → Ordering) (xs ys : List K) (x y : K) → length xs ≡ length ys →
-    slice_cmp C (xs ++ x ∷ []) (ys ++ y ∷ []) ≡ ordering_then (slice_cmp C xs ys) (C x y)
-slice_cmp-push C xs ys x y e =
-    slice_cmp-append C xs ys (x ∷ []) (y ∷ []) e ∙ ap (λ (o : Ordering). ordering_then (slice_cmp C xs ys) o)
-    (then-none (C x y))
 
 -- ---- the shorter list first
 

@@ -253,7 +253,7 @@ pub push_from : (board : Board) (s : Scene) (d : Dir) (t : Scene) → IsScene bo
     next board (next board s.player d) (opposite d) ≡ s.player
 push_from board s d t scene h = next_back board s.player d scene.player.0 (scene.boxes (next board s.player d) h.0)
 
--- the same push from the same boxes is made from one state
+-- two states with the same boxes from which the same push is made directly are the same
 pub same_place : (board : Board) (a b x y : Scene) (d e : Dir) → IsScene board a → IsScene board x → a.boxes ≡ x.boxes
     → Pushes board a d b
     → Pushes board x e y → push_at board a d ≡ push_at board x e → a ≡ x

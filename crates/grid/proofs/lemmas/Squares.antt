@@ -370,17 +370,3 @@ contained_all test (x ∷ xs) all q there =
     by : (b : Bool) → eqb x q ≡ b → (contains xs q ≡ true → test q ≡ true) → test x ≡ true → test q ≡ true
     by true e later here = subst (λ (n : ℕ). test n ≡ true) (eqb-true x q e) here
     by false e later here = later (rw e at there)
-
--- a set of squares below n has at most n members
-pub length-le_bound : (xs : Squares) (n : ℕ) → is_rising xs ≡ true → ((q : ℕ) → contains xs q ≡ true → q < n)
-    → length xs ≤ n
-length-le_bound xs n h below = let e = counted 0 xs (omega arith) h below in omega arith
-  where
-    counted : (k : ℕ) (ys : Squares) → k ≤ n → rises_from k ys ≡ true → ((q : ℕ) → contains ys q ≡ true → q < n)
-        → length ys + k ≤ n
-    counted k [] le hy all = omega arith
-    counted k (y ∷ ys) le hy all =
-        let p = rises_from-parts k y ys hy in
-        let first = all y (contains_head y ys) in
-        let e = counted (suc y) ys (omega arith) p.1 (λ q here. all q (contains_tail y ys q here)) in
-        omega arith
