@@ -13,7 +13,7 @@ pub fn walks_go_both_ways()
     ensures { (board : Board) (s : Scene) (q : ℕ) → IsScene board s → Area board s q → Area board (at s q) s.player }
 {}
 
-/// A test of the boxes alone that a state passes is passed all along each walk from it.
+/// If a state passes a test that looks at the boxes alone, each state of a walk from it passes the test.
 pub fn what_boxes_decide_lasts()
     ensures { (board : Board) (s t : Scene) (ds : List Dir) (test : Squares → Bool) → test s.boxes ≡ true →
         Play board Any s ds [] t

@@ -10,7 +10,7 @@ use grid::{Dir, Square, WORD_BITS};
 
 /// Which squares a set contains of one, the middle, and the eight round it: the lowest three bits of a word for
 /// each of three rows, left to right.
-#[derive(Clone, Copy, PartialEq, Eq, Debug)]
+#[derive(Clone, Copy, PartialEq, Eq)]
 pub(crate) struct Ring {
     pub(crate) above: u64,
     pub(crate) beside: u64,
@@ -19,7 +19,7 @@ pub(crate) struct Ring {
 
 /// Which squares a set contains on one side of a push onto the middle: the one beside the square that the box comes
 /// from, the one beside the middle, and the one after that in the push's direction.
-#[derive(Clone, Copy, PartialEq, Eq, Debug)]
+#[derive(Clone, Copy, PartialEq, Eq)]
 pub(crate) struct Flank {
     pub(crate) corner: bool,
     pub(crate) beside: bool,
@@ -28,7 +28,7 @@ pub(crate) struct Flank {
 
 /// A ring as a push onto the middle meets it: a flank on each side, left or above first, and whether the set
 /// contains the square beyond the middle, and the middle.
-#[derive(Clone, Copy, PartialEq, Eq, Debug)]
+#[derive(Clone, Copy, PartialEq, Eq)]
 pub(crate) struct Turned {
     pub(crate) one: Flank,
     pub(crate) other: Flank,

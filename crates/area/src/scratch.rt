@@ -21,7 +21,7 @@ use std::marker::Model;
 /// A flood leaves two sets: the squares that it reaches, and the boxes. [`Scratch::reaches`] and
 /// [`Scratch::has_box`] read them until another call uses the scratch. The spare sets serve what keeps the last
 /// flood: another flood with its boxes, or tests of which boxes hold one another.
-#[derive(Debug, Drop)]
+#[derive(Drop)]
 pub struct Scratch {
     squares: usize,
     pub(crate) marks: Vec<u16>,

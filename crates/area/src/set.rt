@@ -14,7 +14,7 @@ use std::marker::Model;
 /// A set of squares of a grid, with a fixed capacity: one bit a square.
 ///
 /// Contracts see its words of bits as a list, and `has_bit` says whether the set contains a square.
-#[derive(Debug, Drop)]
+#[derive(Drop)]
 pub struct SquareSet {
     words: Vec<u64>,
 }

@@ -10,7 +10,7 @@ use crate::scratch::Scratch;
 use grid::{Dir, Level, Square};
 
 /// What is known about the player's walks after a push. `false` means that it is not known.
-#[derive(Clone, Copy, PartialEq, Eq, Debug)]
+#[derive(Clone, Copy, PartialEq, Eq)]
 pub(crate) struct Sight {
     /// All that the last flood reached beside the square ahead stays connected, by steps round that square.
     pub(crate) is_joined: bool,

@@ -12,7 +12,7 @@ use std::marker::Model;
 
 /// The lengths of the shortest walks from the player's square of a position, and the memory to measure them: four bytes
 /// a square, made once for levels of the same rows and columns.
-#[derive(Debug, Drop)]
+#[derive(Drop)]
 pub struct Walks {
     marks: Vec<u16>,
     queue: Vec<Square>,
