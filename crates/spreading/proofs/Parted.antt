@@ -1,5 +1,5 @@
 -- What holds of all elements holds of those after the first, and what holds of the first and of those after it holds of all.
-use Rattle.std.proofs.Common.{◌≡◌, ℕ, ◌+◌, ◌-◌, ◌<◌, List, ◌++◌, length, set, refl, sym, subst, ap, ◌∙◌, arith}
+use Rattle.std.proofs.Common.{◌≡◌, ℕ, ◌+◌, ◌-◌, ◌<◌, List, ◌++◌, length, set, sym, subst, ap, ◌∙◌, arith}
 use lib.ListN.{get_or}
 use Rattle.std.proofs.lemmas.List.{get_or-set_same, get_or_default, length-set, get_or_append_left, get_or-append_right, length-append}
 use Rattle.std.proofs.lemmas.Bool.{cases_lt}
@@ -36,9 +36,6 @@ module _ {X : Type 0} (R : ℕ → X → X → Type 0) (base : ℕ) where
             (subst (R base (get_or xs 0 d)) (sym (get_or-set_same xs 0 y d (omega arith)))
             (subst (λ x. R base x y) (get_or_default xs 0 e d (omega arith)) change)));
       }
-
-  pub changes_none : (xs : List X) → length xs ≡ 0 → ChangesFrom R base xs xs
-  changes_none xs none = record { len = refl; each = λ k d low. absurd (omega (arith, none)) }
 
   pub changes_both : (all part more part' more' : List X) (n : ℕ) → all ≡ part ++ more → length part ≡ n → ChangesFrom R base part part' →
       ChangesFrom R (base + n) more more' → ChangesFrom R base all (part' ++ more')
