@@ -13,7 +13,7 @@ use std::marker::Model;
 
 /// A lower bound on the pushes that positions of a level need: for each square the fewest pushes that take a lone box
 /// from there to a goal. It is made once for a level. Contracts show the level that it was made of.
-#[derive(Debug, Drop)]
+#[derive(Drop)]
 pub struct Bound {
     level: Level,
     // for each square its distance, none where it is dead

@@ -20,7 +20,7 @@ use grid::{Dir, Level, Square, WORD_BITS};
 
 /// For each direction, a word with a bit for each square where a box that is pushed onto it in that direction may be
 /// held on both axes: by walls, dead squares or other boxes.
-#[derive(Clone, Copy, PartialEq, Eq, Default, Debug)]
+#[derive(Clone, Copy, PartialEq, Eq, Default)]
 pub(crate) struct Danger {
     pub(crate) d: u64,
     pub(crate) l: u64,
@@ -32,7 +32,7 @@ pub(crate) struct Danger {
 /// are not dead leave their box loose, so they doom nothing and need no [`doomed_after`](crate::doomed_after): see
 /// [`a_loose_box_dooms_nothing`](crate::laws::a_loose_box_dooms_nothing). One call of `find` serves all pushes of a
 /// position.
-#[derive(Debug, Drop)]
+#[derive(Drop)]
 pub struct Dangers {
     // for the squares of the first few words; nothing is known about the others
     pub(crate) words: ArrayVec<Danger, MOST_WORDS>,

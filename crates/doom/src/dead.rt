@@ -14,7 +14,7 @@ use std::marker::Model;
 ///
 /// It is made once for a level, and serves all checks of positions. It also keeps, as sets, the squares where walls
 /// or dead squares hold a box on an axis, and the goals.
-#[derive(Debug, Drop)]
+#[derive(Drop)]
 pub struct Dead {
     level: Level,
     live: Vec<bool>,

@@ -7,7 +7,7 @@ use grid::{Dir, Level, Square};
 use std::alloc::{AllocError, Global};
 
 /// The squares of a level where walls or dead squares hold a box, and the goals.
-#[derive(Debug, Drop)]
+#[derive(Drop)]
 pub(crate) struct Holds {
     /// The squares where a box is held across: it can be pushed neither left nor right.
     pub(crate) across: SquareSet,

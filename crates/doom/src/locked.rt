@@ -126,7 +126,7 @@ fn peel_boxes(holds: &Holds, cols: usize, boxes: &[Square], members: &mut [u64])
     went
 }
 
-// `peel` by each word once.
+// One pass of `peel` over all words.
 pub(crate) fn peel_words(holds: &Holds, cols: usize, members: &mut [u64]) -> bool
     requires holds { HaveRoom holds.now (length members.old) }
     ensures { IsPass holds.now cols members.old members.new result }

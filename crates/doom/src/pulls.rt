@@ -1,5 +1,6 @@
 //! The squares from which a lone box can be pushed to a goal, and their distances, found from the goals by pulls.
-ghost use Rattle.std.specs.Prelude.{◌≡◌, ◌+◌, ◌<◌, ◌≤◌, Some, OnOk, IfOk, [], vec_len, length};
+ghost use Rattle.std.specs.Prelude.{◌≡◌, ◌+◌, ◌<◌, ◌≤◌, Some, None, OnOk, IfOk, [], vec_len, length, map, is_some};
+ghost use Rattle.std.specs.Prelude.{replicate};
 ghost use Rattle.doom.specs.inside.Pulling.{AreDistances, AreLiveFlags, IsDue, IsFilling, IsTurn, Marks, Pulls, far_at};
 ghost use Rattle.doom.specs.inside.Pulling.{unknown};
 
@@ -12,11 +13,15 @@ pub(crate) fn live_flags(alloc: Global, level: &Level) -> Result<Vec<bool>, Allo
     ensures { IfOk result (λ flags. AreLiveFlags level.now flags.items) }
 {
     let far = distances(alloc, level)?;
-    let mut flags = Vec::with_capacity(alloc, far.len())?;
-    for steps in far.as_slice() {
-        flags.push(steps.is_some())?;
-    }
+    let flags = known_flags(alloc, far.as_slice())?;
     Ok(flags)
+}
+
+// For each square, whether its distance is known.
+fn known_flags(alloc: Global, far: &[Option<u16>]) -> Result<Vec<bool>, AllocError>
+    ensures { IfOk result (λ flags. flags.items ≡ map (λ x. is_some x) far.now) }
+{
+    far.iter().map(|steps| steps.is_some()).collect(alloc)
 }
 
 /// For each square of the level the fewest pushes that take a lone box from it to a goal; none if no pushes do.
@@ -49,20 +54,31 @@ impl PullSearch {
         ensures filling { IfOk result (λ found. IsFilling level.now 0 found.far.items [] found.marked.items) }
         ensures due { IfOk result (λ found. found.due.items ≡ []) }
     {
-        level.tell();
         let squares = level.squares();
         let mut found = PullSearch {
             far: vec![in alloc; None; squares]?,
             due: Vec::with_capacity(alloc, squares)?,
             marked: Vec::with_capacity(alloc, squares)?,
         };
-        for index in 0..squares {
+        found.mark_goals(level)?;
+        Ok(found)
+    }
+
+    /// Marks the goals.
+    fn mark_goals(&mut self, level: &Level) -> Result<(), AllocError>
+        requires none { self.old.far.items ≡ replicate (length level.now.cells) None }
+        requires clear { self.old.marked.items ≡ [] }
+        ensures filling { OnOk result (IsFilling level.now 0 self.new.far.items [] self.new.marked.items) }
+        ensures due { self.new.due.items ≡ self.old.due.items }
+    {
+        level.tell();
+        for index in 0..level.squares() {
             let square = Square(index as u16);
             if level.is_goal(square) {
-                found.mark(square, 0)?;
+                self.mark(square, 0)?;
             }
         }
-        Ok(found)
+        Ok(())
     }
 
     /// Pulls a box from each square that is due; their distance is `steps - 1`.

@@ -14,7 +14,7 @@ pub record HaveRoom (holds : Holds) (words : ℕ) : Type 0 where
   pub along : words ≤ length holds.along
   pub goals : words ≤ length holds.goals
 
--- a box on the square is held on an axis: anyway, or by a member whose number is greater or less by `by`
+-- a box on the square is held on an axis: whatever the other boxes are, or by a member whose number is greater or less by `by`
 abbrev pub IsHeldBy : List ℕ → ℕ → Squares → ℕ → Type 0
 IsHeldBy fast by members q = (has_bit fast q ≡ true) ⊎
     ((contains members (q + by) ≡ true) ⊎ ((p : ℕ) × (p + by ≡ q) × (contains members p ≡ true)))
