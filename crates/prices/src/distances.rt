@@ -23,7 +23,7 @@ use std::marker::Model;
 ///
 /// It takes four bytes for each goal and each side of each square, 17 MB in the largest rooms with 64 goals. There it
 /// distinguishes the sides of the first thousand squares that cut the room; in rooms of up to 8,192 squares, of all.
-#[derive(Debug, Drop)]
+#[derive(Drop)]
 pub struct Distances {
     pub(crate) level: Level,
     pub(crate) table: DistanceTable,

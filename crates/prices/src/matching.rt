@@ -11,7 +11,7 @@ pub(crate) const NONE: u8 = u8::MAX;
 
 /// The boxes of a position matched with the goals, at least cost. It is mended from one position to the next: boxes
 /// that did not move stay matched. The tolls of the goals make each box prefer the goal that it is matched with.
-#[derive(Debug, Drop)]
+#[derive(Drop)]
 pub struct Matching {
     // the index of each box's distances in the table, and the number of boxes
     pub(crate) rows: [u32; MAX_BOXES],

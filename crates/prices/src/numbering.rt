@@ -10,7 +10,7 @@ pub(crate) const NO_SQUARE: u16 = u16::MAX;
 /// The visit of a square: its number from 1, or 0 if it was not visited; the least number beside it or beside the
 /// squares that were reached through it; one more than the greatest number of those; its parent; and the number of
 /// directions that were tried.
-#[derive(Clone, Copy, Default, Debug)]
+#[derive(Clone, Copy, Default)]
 pub(crate) struct Visit {
     pub(crate) number: u32,
     pub(crate) least: u32,

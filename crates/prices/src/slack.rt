@@ -13,7 +13,7 @@ use std::marker::Model;
 
 /// How many more pushes are left than the boxes of a position need, by the tolls of a matching. Contracts see the
 /// level, the position, and how many pushes are left after the next one; `None` is any number.
-#[derive(Debug, Drop)]
+#[derive(Drop)]
 pub struct Slack<'a> {
     level: &'a Level,
     table: &'a DistanceTable,

@@ -6,7 +6,7 @@ use grid::Square;
 
 /// The squares on one side of a box that cuts the room: those with a number from `from` to `to - 1`. The distances of
 /// the box, with the player there, begin at `row`.
-#[derive(Clone, Copy, Debug)]
+#[derive(Clone, Copy)]
 pub(crate) struct Side {
     pub(crate) from: u32,
     pub(crate) to: u32,
@@ -15,7 +15,7 @@ pub(crate) struct Side {
 
 /// A square: its number for the player, and the sides of a box on it, from the index `first` on. If the player is on
 /// none of these sides, the distances begin at `row`.
-#[derive(Clone, Copy, Default, Debug)]
+#[derive(Clone, Copy, Default)]
 pub(crate) struct Spot {
     pub(crate) number: u32,
     pub(crate) first: u32,
@@ -24,7 +24,7 @@ pub(crate) struct Spot {
 }
 
 /// The distances of lone boxes: for each square and side, one for each goal, in the order of the goals.
-#[derive(Debug, Drop)]
+#[derive(Drop)]
 pub(crate) struct DistanceTable {
     pub(crate) goals: Vec<Square>,
     pub(crate) spots: Vec<Spot>,
