@@ -244,7 +244,7 @@ possible_at board pushes i p here played s xs w scene =
     let parts = place_split pushes i p here in
     next_possible board (take i pushes) s xs w scene p parts.1.0 (subst (ArePlayed board) parts.1.1 played)
 
--- and leads to the least play with one more push
+-- such a push leads to the least play with one more push
 pub more_at : (board : Board) (pushes : List Push) (i : ℕ) (p : Push) → slice_get pushes i ≡ Some p
     → ArePlayed board pushes
     → (s t : Scene) (xs ys : List Letter) → WritesLeastPlay board (take i pushes) s xs → IsScene board s

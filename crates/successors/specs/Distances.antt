@@ -1,4 +1,4 @@
--- How far a position is, and lists without repetition.
+-- How many pushes lead from the start to a position, and lists without repetition.
 use Rattle.std.specs.Prelude.{◌≡◌, ℕ, ◌≤◌, List, length, slice_get, Some}
 use Rattle.grid.specs.declared.square.Push.{Push}
 use Rattle.grid.specs.Board.{Scene}

@@ -13,7 +13,7 @@ pub(crate) const MOST_DEALT: usize = 64;
 pub(crate) const ROWS: usize = MOST_DEALT * MAX_SHARES as usize;
 
 /// The places of successors, those of each share in a row of its own.
-#[derive(Debug, Drop)]
+#[derive(Drop)]
 pub(crate) struct Deal {
     // the number of shares, or 0 if nothing is dealt
     pub(crate) shares: u8,

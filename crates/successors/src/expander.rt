@@ -22,7 +22,7 @@ use std::marker::Model;
 
 /// Expands the positions of a problem one push at a time, in memory that is made once. Contracts see the level with
 /// its cap, what the last flood reached, and the pushes that were found.
-#[derive(Debug, Drop)]
+#[derive(Drop)]
 pub struct Expander<'p> {
     problem: &'p Problem,
     scratch: Scratch,

@@ -14,7 +14,7 @@ use doom::{Bound, Dead};
 use grid::{Level, Position};
 
 /// A position to expand: the position with this rank in this layer of a level, under a cap or without one.
-#[derive(Debug, Drop)]
+#[derive(Drop)]
 pub struct RankedPosition {
     pub cap: Option<u32>,
     pub layer: u64,

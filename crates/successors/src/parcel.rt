@@ -12,7 +12,7 @@ use grid::{Level, Position, Push};
 use std::marker::Model;
 
 /// A successor of a position: the push that leads there, and the normal position after that push.
-#[derive(Debug, Default, Drop)]
+#[derive(Default, Drop)]
 pub struct Successor {
     pub push: Push,
     pub position: Position,
@@ -20,7 +20,7 @@ pub struct Successor {
 
 /// Successors, and beside each the sum of its squares. A parcel counts how many of the first slots are in use; the
 /// others are there to be overwritten.
-#[derive(Debug, Drop)]
+#[derive(Drop)]
 pub(crate) struct Slots {
     pub(crate) sums: ArrayVec<u32, MAX_SUCCESSORS>,
     pub(crate) successors: ArrayVec<Successor, MAX_SUCCESSORS>,
@@ -41,7 +41,7 @@ impl Slots {
 
 /// The working memory of an expansion: the pushes to try, the squares where they may freeze a box, and the slots for
 /// their successors.
-#[derive(Debug, Drop)]
+#[derive(Drop)]
 pub(crate) struct Buffers {
     pub(crate) pushes: ArrayVec<Push, MAX_SUCCESSORS>,
     pub(crate) dangers: Dangers,
@@ -64,7 +64,7 @@ impl Buffers {
 
 /// The undoomed successors of a layer's position that the next layer admits, in the order of their pushes. It holds
 /// them in slots of its own, so that a thread can fill the same parcel again and again.
-#[derive(Debug, Drop)]
+#[derive(Drop)]
 pub struct Parcel<'a> {
     pub(crate) level: &'a Level,
     pub(crate) cap: Option<u32>,

@@ -13,7 +13,7 @@ use std::sync::Arc;
 
 /// What a search solves: a level, and the greatest number of pushes of a solution, if a cap is set. It holds the
 /// level's dead squares and, under a cap, its bound. Contracts see the level with its cap.
-#[derive(Debug, Drop)]
+#[derive(Drop)]
 pub struct Problem {
     level: Arc<Level>,
     cap: Option<u32>,
@@ -39,13 +39,12 @@ impl Problem {
     pub fn of(alloc: Global, level: &Arc<Level>, cap: Option<u32>) -> Result<Problem, AllocError>
         ensures { IfOk result (λ problem. problem ≡ capped (arc_value level.now) cap) }
     {
-        let dead = Dead::of(alloc, level)?;
+        let shared = Arc::try_clone(level)?;
         let bound = bound_for(alloc, level, cap)?;
-        let level = Arc::try_clone(level)?;
         Ok(Problem {
-            level,
+            level: shared,
             cap,
-            dead,
+            dead: Dead::of(alloc, level)?,
             bound,
         })
     }
