@@ -59,10 +59,7 @@ pub(crate) fn choose_for(
 ) -> Result<RegionChoice, AllocError> {
     let tolls = fitted(alloc, distances, samples)?;
     let wastes = wastes_of(alloc, level, distances, tolls.as_slice())?;
-    let order = ranked(alloc, level, wastes.as_slice(), bytes / SMALL, samples)?;
-    let mut finder = Finder::new(alloc, level, wastes.as_slice(), level.boxes(), bytes)?;
-    let windows = windows_round(alloc, level, &mut finder, order.as_slice())?;
-    let regions = affordable(alloc, &finder, windows)?;
+    let regions = windows_for(alloc, level, wastes.as_slice(), bytes, samples)?;
     let owners = owners_of(alloc, level, regions.as_slice())?;
     Ok(RegionChoice {
         tolls,
@@ -70,6 +67,21 @@ pub(crate) fn choose_for(
         owners,
         regions,
     })
+}
+
+// The windows that suit these positions, as many as the tables may take.
+fn windows_for(
+    alloc: Global,
+    level: &Level,
+    wastes: &[u8],
+    bytes: usize,
+    samples: &[Position],
+) -> Result<Vec<Vec<Square>>, AllocError> {
+    let order = ranked(alloc, level, wastes, bytes / SMALL, samples)?;
+    let mut finder = Finder::new(alloc, level, wastes, level.boxes(), bytes)?;
+    let windows = windows_round(alloc, level, &mut finder, order.as_slice())?;
+    let regions = affordable(alloc, &finder, windows)?;
+    Ok(regions)
 }
 
 // Windows round these squares, in this order, and then round others from which a box can come to a goal.

@@ -178,15 +178,8 @@ pub(crate) fn ranked(
     bytes: usize,
     samples: &[Position],
 ) -> Result<Vec<Square>, AllocError> {
-    level.tell();
     let mut finder = Finder::new(alloc, level, wastes, level.boxes(), bytes)?;
-    let mut live = Vec::new(alloc);
-    for index in 0..level.squares() {
-        let square = Square(index as u16);
-        if finder.is_live(square) {
-            live.push(square)?;
-        }
-    }
+    let live = live_squares(alloc, level, &finder)?;
     let stride = live.len() / MOST_TRIES + 1;
     let mut ranks = Vec::new(alloc);
     for square in live.as_slice().iter().step_by(stride) {
@@ -195,6 +188,19 @@ pub(crate) fn ranked(
         ranks.push((found, *square))?;
     }
     sorted(alloc, ranks)
+}
+
+// The squares from which a box can come to a goal, in order.
+fn live_squares(alloc: Global, level: &Level, finder: &Finder) -> Result<Vec<Square>, AllocError> {
+    level.tell();
+    let mut live = Vec::new(alloc);
+    for index in 0..level.squares() {
+        let square = Square(index as u16);
+        if finder.is_live(square) {
+            live.push(square)?;
+        }
+    }
+    Ok(live)
 }
 
 // How much the table of a region finds in the samples.

@@ -61,20 +61,7 @@ pub(crate) fn layout_of(alloc: Global, site: &Site<'_>) -> Result<Layout, AllocE
         pulls: Vec::new(alloc),
         firsts: Vec::new(alloc),
     };
-    layout.seat_all(site)?;
-    layout.place_components(alloc, site.level)?;
-    let listed = layout.listed.clone()?;
-    for square in listed.as_slice() {
-        layout.connect(site.level, *square);
-    }
-    for square in listed.as_slice() {
-        layout.list_pulls_from(site, *square)?;
-    }
-    let unseen = layout.pulls.len();
-    layout.firsts.push(unseen)?;
-    for square in listed.as_slice() {
-        layout.list_pulls_into_sight(site, *square)?;
-    }
+    layout.fill(alloc, site)?;
     Ok(layout)
 }
 
@@ -97,6 +84,25 @@ pub(crate) fn keys_of(
 }
 
 impl Layout {
+    /// Lists the places and pulls of a region, where none are listed yet.
+    fn fill(&mut self, alloc: Global, site: &Site<'_>) -> Result<(), AllocError> {
+        self.seat_all(site)?;
+        self.place_components(alloc, site.level)?;
+        let listed = self.listed.clone()?;
+        for square in listed.as_slice() {
+            self.connect(site.level, *square);
+        }
+        for square in listed.as_slice() {
+            self.list_pulls_from(site, *square)?;
+        }
+        let unseen = self.pulls.len();
+        self.firsts.push(unseen)?;
+        for square in listed.as_slice() {
+            self.list_pulls_into_sight(site, *square)?;
+        }
+        Ok(())
+    }
+
     /// The spot of a place.
     #[inline(always)]
     pub(crate) fn spot(&self, place: usize) -> PlaceBits {

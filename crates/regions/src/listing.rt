@@ -15,7 +15,7 @@ use grid::{Dir, Level, Position, Square};
 use std::alloc::{AllocError, Global};
 
 /// A step of the player between two places, and the bits of their seats.
-#[derive(Clone, Copy, PartialEq, Eq, Debug)]
+#[derive(Clone, Copy, PartialEq, Eq)]
 pub(crate) struct WalkStep {
     pub(crate) from: u8,
     pub(crate) to: u8,
@@ -25,7 +25,7 @@ pub(crate) struct WalkStep {
 /// A push: the places of the player and of the box before it, the waste, the bits of the seats that are free before
 /// it, the bit of the box's seat, and the keys of the squares that the box leaves and comes to. A bit is 0 where no box
 /// is seen.
-#[derive(Clone, Copy, PartialEq, Eq, Debug)]
+#[derive(Clone, Copy, PartialEq, Eq)]
 pub(crate) struct PushStep {
     pub(crate) player: u8,
     pub(crate) place: u8,

@@ -11,7 +11,7 @@ use std::alloc::{AllocError, Global};
 use std::marker::Model;
 
 /// Regions that were chosen for a level, each with the job to make its table, and a toll for each goal.
-#[derive(Debug, Drop)]
+#[derive(Drop)]
 pub struct Plan {
     pub(crate) tolls: Vec<u32>,
     pub(crate) jobs: Vec<Job>,
@@ -23,7 +23,7 @@ pub struct Plan {
 
 /// A region of a level: its squares, and the waste that it counts of each push, four for each square in the order of
 /// directions. The table, once it is made, has passed the check. Contracts see the level, the waste and the table.
-#[derive(Debug, Drop)]
+#[derive(Drop)]
 pub struct Job {
     pub(crate) level: Level,
     pub(crate) squares: Vec<Square>,

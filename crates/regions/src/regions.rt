@@ -8,14 +8,14 @@ ghost use Rattle.regions.specs.inside.Sound.{AreSound, IsTaken};
 use crate::choosing::{choose, choose_for};
 use crate::needs::{needs_of, price};
 use crate::plan::{Plan, plan_of};
-use crate::sums::{are_sound, lower_by};
+use crate::sums::are_sound;
 use grid::{Level, MAX_BOXES, Position};
 use prices::{Distances, Matching, NEVER};
 use std::alloc::{AllocError, Global};
 use std::marker::Model;
 
 /// The distances of a level, and up to three sets of regions with their tables. Contracts see the level.
-#[derive(Debug, Drop)]
+#[derive(Drop)]
 pub struct Regions {
     distances: Distances,
     plan: Option<Plan>,
@@ -174,7 +174,7 @@ fn lower_of(distances: &Distances, plan: &Option<Plan>, position: &Position) -> 
     ensures lost { IfNone result (IsLost distances.now.level position.now) }
 {
     match plan {
-        Some(plan) => lower_by(distances, plan, position),
+        Some(plan) => plan.lower(distances, position),
         None => Some(0),
     }
 }

@@ -54,7 +54,7 @@ fn are_paid(level: &Level, distances: &Distances, tolls: &[u32], jobs: &[Job]) -
     true
 }
 
-// Whether each push from the player's square wastes what all regions count for it.
+// Whether each push that the player can make from this square wastes at least what all regions together count for it.
 fn are_paid_from(
     level: &Level,
     distances: &Distances,
@@ -132,18 +132,20 @@ fn waste_of(jobs: &[Job], square: Square, dir: Dir) -> Option<u64>
     Some(sum)
 }
 
-/// A lower bound on the pushes that the boxes need: their needs and what all regions say, above the tolls. `None` if a
-/// region says that its boxes can never all come to goals.
-pub(crate) fn lower_by(distances: &Distances, plan: &Plan, position: &Position) -> Option<u64>
-    requires taken { IsTaken distances.now (Some plan.now) }
-    requires fits { FitsLevel distances.now.level position.now }
-    ensures bound { IfSome result (λ low. (m : ℕ) → m < low → NoneWithin distances.now.level m position.now) }
-    ensures lost { IfNone result (IsLost distances.now.level position.now) }
-{
-    distances.tell();
-    let excess = excess_of(plan.jobs.as_slice(), position)?;
-    let needs = total_need(distances, plan.needs.as_slice(), position);
-    Some(needs.saturating_add(excess).saturating_sub(plan.price))
+impl Plan {
+    /// A lower bound on the pushes that the boxes need: their needs and what all regions say, above the tolls. `None`
+    /// if a region says that its boxes can never all come to goals.
+    pub(crate) fn lower(&self, distances: &Distances, position: &Position) -> Option<u64>
+        requires taken { IsTaken distances.now (Some self.now) }
+        requires fits { FitsLevel distances.now.level position.now }
+        ensures bound { IfSome result (λ low. (m : ℕ) → m < low → NoneWithin distances.now.level m position.now) }
+        ensures lost { IfNone result (IsLost distances.now.level position.now) }
+    {
+        distances.tell();
+        let excess = excess_of(self.jobs.as_slice(), position)?;
+        let needs = total_need(distances, self.needs.as_slice(), position);
+        Some(needs.saturating_add(excess).saturating_sub(self.price))
+    }
 }
 
 // What all regions say of a position, or less; `None` if that is endless for one of them.

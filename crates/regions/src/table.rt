@@ -12,7 +12,7 @@ use grid::{Dir, MAX_BOXES, Position, Square};
 pub(crate) const ENDLESS: u8 = u8::MAX;
 
 /// What a box on a square adds to the two numbers of a set of boxes.
-#[derive(Clone, Copy, Default, PartialEq, Eq, Debug)]
+#[derive(Clone, Copy, Default, PartialEq, Eq)]
 pub(crate) struct BoxKey {
     pub(crate) high: u32,
     pub(crate) low: u32,
@@ -22,7 +22,7 @@ pub(crate) struct BoxKey {
 /// has two numbers, the sums of its keys. Its row begins at the sum of their entries in `high_rows` and `low_rows`. An
 /// entry is at the row's begin and the player's place; there is none past the end, which reads as 0. 254 stands for
 /// that many pushes or more.
-#[derive(Debug, Drop)]
+#[derive(Drop)]
 pub(crate) struct RegionTable {
     /// The place of each square of the level. A square where a box is seen has a place of its own. The others share it
     /// with those that the player reaches from there without crossing such a square.
