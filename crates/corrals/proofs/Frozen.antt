@@ -11,7 +11,7 @@ use Rattle.doom.specs.Deadlocks.{IsFrozen}
 use Rattle.corrals.specs.Corrals.{FreezesHeld}
 use Rattle.corrals.specs.inside.Freezing.{AreMoved, IsMoved}
 
--- at first the square ahead stands at each place
+-- a list that has the square ahead at each place is a list of moved boxes
 pub ahead_alone : (board : Board) (boxes : Squares) (b ahead n : ℕ) → ahead < length board.cells → AreMoved board boxes b ahead (replicate n ahead)
 ahead_alone board boxes b ahead n inside i lt =
     let size = length-replicate n ahead in

@@ -7,7 +7,7 @@ use std::alloc::{AllocError, Global};
 
 /// The chosen boxes and squares. For a position it keeps the boxes that are in no corral, by their bits, the boxes and
 /// rooms of the corral that grows, and those of the corral with the fewest pushes so far.
-#[derive(Debug, Drop)]
+#[derive(Drop)]
 pub(crate) struct Choice {
     pub(crate) boxes: Vec<Square>,
     pub(crate) squares: Vec<Square>,

@@ -11,7 +11,7 @@ use std::marker::Model;
 /// The corral that the last call of [`find`](crate::find) found, if that returned `true`, and the memory of the search,
 /// made once for all levels with the same rows and columns; on a level of another size it finds none. Contracts see the
 /// squares of its boxes and of its room, as words of bits.
-#[derive(Debug, Drop)]
+#[derive(Drop)]
 pub struct Corral {
     pub(crate) size: usize,
     pub(crate) choice: Choice,
@@ -21,7 +21,7 @@ pub struct Corral {
 }
 
 /// The squares of the held boxes, and those of the room.
-#[derive(Debug, Drop)]
+#[derive(Drop)]
 pub(crate) struct Sets {
     pub(crate) held: SquareSet,
     pub(crate) room: SquareSet,

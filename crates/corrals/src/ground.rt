@@ -18,7 +18,7 @@ use std::marker::Model;
 
 /// A position of a level, with its flood in the scratch. Contracts see the level, the position, and how many pushes are
 /// left after the next one; `None` is any number.
-#[derive(Debug, Drop)]
+#[derive(Drop)]
 pub(crate) struct Ground<'a> {
     level: &'a Level,
     dead: &'a Dead,

@@ -11,7 +11,7 @@ use std::alloc::{AllocError, Global};
 /// The greatest number of rooms.
 const MAX_ROOMS: usize = 64;
 
-/// The number of squares beside boxes: four for each box.
+/// The length of a list with four entries for each box.
 const SIDES: usize = 4 * MAX_BOXES;
 
 /// The code of a square of room 0; a square of another room has `ROOM` plus the room's number, and a box has its index.
@@ -43,7 +43,7 @@ pub(crate) enum Beside {
 /// goals and `off_goal` the boxes off goal, all as bits. `beside` has the codes of the four squares beside each box,
 /// and `holders` what holds it. A bit of `asked` says that it is known whether a push of a box never helps, the bit of
 /// `useless` that it never does.
-#[derive(Debug, Drop)]
+#[derive(Drop)]
 pub(crate) struct Sketch {
     codes: Vec<u8>,
     squares: Vec<Square>,

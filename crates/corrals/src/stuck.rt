@@ -8,7 +8,7 @@ use grid::{Dir, MAX_BOXES, Square};
 const MAX_LOOKS: usize = 5 * MAX_BOXES;
 
 /// What holds a box on a square, for each axis: walls or dead squares, or each of these boxes, by its bit.
-#[derive(Clone, Copy, Debug, Default)]
+#[derive(Clone, Copy, Default)]
 pub(crate) struct Holders {
     across: u64,
     along: u64,
