@@ -72,7 +72,7 @@ kept-other cells start col inside other =
     (get_or cells (start + col) Wall)
     (row-more cells start col inside) other) ∙ long)
 
--- what is left is the front
+-- `before_rest` gives the first elements of x ∷ xs
 take-before : {A : Type 0} (t : Bool) (x : A) (ys xs : List A) → take (length ys) xs ≡ ys
     → take (length (before_rest t x ys)) (x ∷ xs) ≡ before_rest t x ys
 take-before true x [] xs e = refl

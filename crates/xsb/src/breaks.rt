@@ -15,7 +15,7 @@ use crate::sizes::line_size;
 use counts::{MAX_DIGITS, digit_count, times};
 
 /// Why no item begins at a byte.
-#[derive(Clone, Copy, PartialEq, Eq, Debug)]
+#[derive(Clone, Copy, PartialEq, Eq)]
 pub enum Cause {
     /// This byte is no cell and no digit.
     Byte(u8),
@@ -28,7 +28,7 @@ pub enum Cause {
 }
 
 /// A line that has a wall and is no row line.
-#[derive(Clone, Copy, PartialEq, Eq, Debug)]
+#[derive(Clone, Copy, PartialEq, Eq)]
 pub struct BrokenRow {
     /// The number of the line, from 1.
     pub line: u32,

@@ -7,7 +7,7 @@ use std::alloc::{AllocError, Global};
 use thiserror::Error;
 
 /// A board of a collection.
-#[derive(Debug, Drop)]
+#[derive(Drop)]
 pub struct Entry {
     /// The name, without spaces and tabs at its ends; empty if the collection gives none.
     pub name: Vec<u8>,
@@ -18,7 +18,7 @@ pub struct Entry {
 }
 
 /// A board of a collection, without the tables of a level.
-#[derive(Debug, Drop)]
+#[derive(Drop)]
 pub struct BoardEntry {
     /// The name, as in an [`Entry`].
     pub name: Vec<u8>,

@@ -17,7 +17,7 @@ use grid::Cell;
 use std::alloc::{AllocError, Global};
 
 /// Where a row of a board is.
-#[derive(Clone, Copy, PartialEq, Eq, Debug)]
+#[derive(Clone, Copy, PartialEq, Eq)]
 pub struct RowPlace {
     /// The number of its line, from 1.
     pub line: u32,
@@ -26,7 +26,7 @@ pub struct RowPlace {
 }
 
 /// A board as it was read, lawful or not: its cells by rows, and where the rows are.
-#[derive(Debug, Drop)]
+#[derive(Drop)]
 pub struct BoardRows {
     /// The number of columns.
     pub cols: usize,
@@ -37,7 +37,7 @@ pub struct BoardRows {
 }
 
 /// Where a board is too large.
-#[derive(Clone, Copy, PartialEq, Eq, Debug)]
+#[derive(Clone, Copy, PartialEq, Eq)]
 pub enum Excess {
     /// It has too many rows: the number of the line with the first of them.
     Rows(u32),
@@ -46,7 +46,7 @@ pub enum Excess {
 }
 
 /// A board of a collection, and its rows as they were read.
-#[derive(Debug, Drop)]
+#[derive(Drop)]
 pub struct BoardSource {
     /// The board, or its first fault.
     pub entry: BoardEntry,

@@ -14,8 +14,6 @@ use crate::lines::Lines;
 use crate::names::Gap;
 use crate::places::BoardSource;
 use std::alloc::{AllocError, Global};
-use std::fmt;
-use std::fmt::{Debug, Formatter};
 
 /// A collection that is read board by board. Only one board is in memory, unless the caller keeps more.
 #[derive(Drop)]
@@ -97,15 +95,6 @@ impl<'a> Collection<'a> {
             board: judged,
         };
         Ok(Some((entry, board)))
-    }
-}
-
-// shows the number of the next line, and not the bytes that are left
-impl<'a> Debug for Collection<'a> {
-    fn fmt<W: fmt::Write>(&self, f: &mut Formatter<W>) -> fmt::Result {
-        f.debug_struct("Collection")
-            .field("line", &self.lines.number)
-            .finish()
     }
 }
 

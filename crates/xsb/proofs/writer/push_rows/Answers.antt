@@ -1,8 +1,16 @@
-use Rattle.std.proofs.Common.{◌++◌, ◌*◌, ◌+◌, [], take, drop, sym, ap, ◌∙◌, append_assoc, arith}
+use Rattle.std.proofs.Common.{◌++◌, ◌*◌, ◌+◌, ℕ, List, [], take, drop, sym, ap, ◌∙◌, append_assoc, arith}
 use Rattle.std.proofs.lemmas.List.{append-nil}
 use Rattle.xsb.specs.inside.Bytes.{written_row}
 use Rattle.xsb.proofs.CellsByReaders.{left_from, left-none, left-more}
+use Rattle.bstr.specs.Text.{Extends}
 use Rattle.xsb.proofs.writer.push_rows.Goals as goal
+
+-- what extends an extension extends
+extends_more : (xs ys zs : List ℕ) → Extends xs ys → Extends ys zs → Extends xs zs
+extends_more xs ys zs a b = (a.0 ++ b.0, b.1 ∙ ap (λ l. l ++ b.0) a.1 ∙ append_assoc xs a.0 b.0)
+
+pub returns-in_err-push_row-clause-more : goal.returns-in_err-push_row-clause-more
+returns-in_err-push_row-clause-more c = extends_more _ _ _ c.loop-row.invariant.1 c.push_row.ensures.more
 
 pub loop-row-init : goal.loop-row-init
 loop-row-init c = (ap (λ l. c.args.out.now.items ++ l) (left-none c.args.level.now), ([], sym (append-nil c.args.out.now.items)))
