@@ -4,10 +4,11 @@ use Rattle.std.proofs.Common.{length-append, length-drop}
 use Rattle.std.specs.List.{AllByRecursion, flat_map}
 use Rattle.std.proofs.lemmas.Grind.{flat_map-append}
 use Rattle.std.proofs.Math.Seq.{take-append_seam, take-add}
-use Rattle.std.proofs.lemmas.List.{append-nil, take_more, length-replicate, take_rest}
+use Rattle.std.proofs.lemmas.List.{append-nil, take_more, length-replicate, length-take-le, take-append-drop, take_rest}
 use Rattle.grid.specs.declared.moves.Letter.{Letter}
 use Rattle.lurd.specs.declared.limits.TheConstants.{MAX_MOVES}
-use Rattle.lurd.specs.Text.{Piece, blank, item, IsPiece, is_skipped, spelling, meaning, IsText}
+use Rattle.lurd.specs.declared.fault.LurdFault.{LurdFault}
+use Rattle.lurd.specs.Text.{Piece, blank, item, IsPiece, is_skipped, spelling, meaning, IsText, FaultsAt, HasTextFault}
 use Rattle.counts.specs.Counts.{repeats}
 use Rattle.lurd.specs.inside.Item.{TakesItem}
 
@@ -66,6 +67,18 @@ text_and_item bytes n times len {letters} {letter} text takes =
     (ap (λ ys. take (length (spelling p)) ys) takes.cut ∙ take-append_seam (spelling p) takes.more)) in
     subst (λ (ys : List ℕ). IsText ys (letters ++ replicate times letter)) (sym front)
     (subst (λ (ls : List Letter). IsText (take n bytes ++ spelling p) (letters ++ ls)) (sym same) (text_and_piece p text takes.lawful few))
+
+-- after a text, what is at fault is the first fault
+pub fault_after : (bytes : List ℕ) (n : ℕ) (letters : List Letter) (fault : LurdFault) → n ≤ length bytes → IsText (take n bytes) letters →
+    FaultsAt (n + 1) (length letters) (drop n bytes) fault → HasTextFault bytes fault
+fault_after bytes n letters fault inside text stands = record {
+  front = take n bytes;
+  letters = letters;
+  rest = drop n bytes;
+  cut = sym (take-append-drop n bytes);
+  text = text;
+  stands = subst (λ k. FaultsAt (k + 1) (length letters) (drop n bytes) fault) (sym (length-take-le n bytes inside)) stands;
+}
 
 -- a text and what is next in the bytes
 pub ruleset one_piece_more = (text_and_blank, item_within, text_and_item, take_rest)
