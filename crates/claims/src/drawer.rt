@@ -2,8 +2,6 @@ ghost use Rattle.std.specs.Prelude.{◌≡◌, ◌↔◌, IsTrue, IsSome};
 
 use crate::views::View;
 use atomic_table::Seat;
-use std::fmt;
-use std::fmt::{Debug, Formatter};
 use std::marker::Model;
 
 /// Draws from a ledger. Contracts see its ledger, its place, the numbers that it drew, whether it found the ledger
@@ -33,15 +31,5 @@ impl Drawer {
         ensures { IsTrue result ↔ IsSome self.now.hand.place }
     {
         self.place.is_some()
-    }
-}
-
-// shows its place and whether it is spent out
-impl Debug for Drawer {
-    fn fmt<W: fmt::Write>(&self, f: &mut Formatter<W>) -> fmt::Result {
-        f.debug_struct("Drawer")
-            .field("place", &self.place)
-            .field("spent", &self.spent)
-            .finish()
     }
 }

@@ -9,8 +9,6 @@ use crate::steps::{Audits, Compares, Drawn, Draws, Enrols, Gathers, Meeting, New
 use crate::views::View;
 use atomic_table::{Seat, Shared, Table};
 use std::alloc::{AllocError, Global};
-use std::fmt;
-use std::fmt::{Debug, Formatter};
 use std::marker::Model;
 
 /// The number of places of a ledger: the greatest number of workers.
@@ -148,13 +146,6 @@ impl Ledger {
         let shared = &self.table.shared;
         let mut seat = gathered(shared, drawers);
         shared.load::<Audits>(&mut seat, NEXT)
-    }
-}
-
-// shows its length
-impl Debug for Ledger {
-    fn fmt<W: fmt::Write>(&self, f: &mut Formatter<W>) -> fmt::Result {
-        f.debug_struct("Ledger").field("len", &self.len).finish()
     }
 }
 
