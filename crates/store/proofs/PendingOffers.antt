@@ -105,7 +105,7 @@ length-split start es found = omega (
   length-map (open_of start es) closed_entry,
 )
 
--- the map holds no more than is found, and with the pending offers no less
+-- the map has at most as many positions as were found; with the pending offers it has at least as many
 pub length-found : (boxes squares start : ℕ) (es : List Closed) (pending : List (OpenEntry Scene Push)) (v : FoundView) → IsFound start es →
     found_view boxes squares start es pending ≡ v → (length es ≤ length v.seen + length v.waiting) × (length v.seen + length v.waiting ≤ length es + length pending)
 length-found boxes squares start es pending v found view = grind (arith, length-split, length-all_let_in)

@@ -1,5 +1,5 @@
 -- The open positions after offers, and how a close appends them to the closed ones.
-use Rattle.std.specs.Prelude.{◌≡◌, ℕ, ◌<◌, Bool, true, false, ◌==◌, ◌&&◌, not, List, [], ◌∷◌, ◌++◌, length, map}
+use Rattle.std.specs.Prelude.{◌≡◌, ℕ, ◌<◌, Bool, false, ◌==◌, ◌&&◌, not, List, [], ◌∷◌, ◌++◌, length, map}
 use Rattle.std.specs.Prelude.{slice_get, Some, is_some, if◌then◌else◌}
 use Rattle.std.specs.Map.{lookup}
 use Rattle.grid.specs.declared.square.Push.{Push}
@@ -18,10 +18,6 @@ offered (e ∷ es) m o = if same_scene m e.0 then (e.0, lesser push_cmp e.1 o) �
 -- the position is of the share and not closed
 abbrev pub is_wanted_in : List Closed → ℕ → ℕ → Scene → Bool
 is_wanted_in seen shares share m = (share_of shares m == share) && not (is_some (lookup (same_scene m) seen))
-
--- each open position is wanted
-abbrev pub AreWanted : (Scene → Bool) → List (OpenEntry Scene Push) → Type 0
-AreWanted wanted waiting = (m : Scene) → is_some (origin_of waiting m) ≡ true → wanted m ≡ true
 
 -- a successor of a rank enters if its position is wanted
 abbrev pub entered : (Scene → Bool) → ℕ → List (OpenEntry Scene Push) → Successor → List (OpenEntry Scene Push)

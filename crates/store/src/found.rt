@@ -15,7 +15,7 @@ use std::marker::Model;
 use successors::{Parcel, Successor};
 
 // The positions found, in keys of one width.
-#[derive(Debug, Drop)]
+#[derive(Drop)]
 pub(crate) enum Tables {
     NarrowLow(PositionTable<4, 0>),
     MiddleLow(PositionTable<12, 0>),
@@ -33,7 +33,7 @@ pub(crate) enum Tables {
 
 /// The positions that a book has found: the closed ones at fixed indices, and the open ones, each with an origin.
 /// Offers may be pending: accepted, and entered later with others. Contracts show them as entered.
-#[derive(Debug, Drop)]
+#[derive(Drop)]
 pub struct Found {
     tables: Tables,
 }
@@ -138,9 +138,10 @@ impl Found {
         in_each!(Tables, &mut self.tables, table => table.passes(limit, share, shares, successors))
     }
 
-    /// Offers the parcel's successors of the share in order. A new position opens with the parcel's rank and its push
-    /// as its origin, and an open one keeps its least origin. The new offers stay pending; if there are at least `most`
-    /// pending ones before, these enter first. Fails only if out of memory, and then changes nothing.
+    /// Offers those successors of the parcel that belong to the share, in their order. A new position opens with the
+    /// parcel's rank and its push as its origin, and an open one keeps its least origin. The new offers stay pending;
+    /// if there are at least `most` pending ones before, these enter first. Fails only if out of memory, and then
+    /// changes nothing.
     #[tactic(auto, using(crate::proofs::Bytes::carried))]
     pub fn enter_all(
         &mut self,

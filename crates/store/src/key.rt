@@ -19,7 +19,7 @@ const SHORT: usize = 4;
 
 /// A position of fewer than `N` boxes. One row has the low bytes of the player's square and of the boxes' squares, in
 /// rising order. The other has their high bytes, or is empty if they are all 0. Zeros fill the rows.
-#[derive(Debug, Drop)]
+#[derive(Drop)]
 pub(crate) struct Key<const N: usize, const M: usize> {
     pub(crate) boxes: u8,
     pub(crate) low: [u8; N],

@@ -15,7 +15,7 @@ use std::alloc::{AllocError, Global};
 use std::marker::Model;
 
 /// Positions with their labels, in keys with `N` low bytes and `M` high ones.
-#[derive(Debug, Drop)]
+#[derive(Drop)]
 pub(crate) struct Labels<const N: usize, const M: usize> {
     map: IndexMap<Key<N, M>, Label>,
     boxes: usize,

@@ -25,7 +25,7 @@ const NO_ORIGIN: u64 = u64::MAX;
 
 /// A parent's rank and a push in one word: the rank, then the square, then the direction. So the order of words is that
 /// of origins.
-#[derive(Clone, Copy, Debug)]
+#[derive(Clone, Copy)]
 pub struct Origin(u64);
 
 impl Model for Origin {
@@ -99,7 +99,7 @@ impl Origin {
 }
 
 /// The origin of a closed position, if it has one, in one word.
-#[derive(Clone, Copy, Debug)]
+#[derive(Clone, Copy)]
 pub(crate) struct ClosedOrigin(u64);
 
 impl Model for ClosedOrigin {

@@ -8,7 +8,7 @@ use std::hash::{Hash, Hasher};
 use std::marker::Model;
 
 /// The borrowed fields of a key with its digest, so that a look-up does not compute it.
-#[derive(Debug, Drop)]
+#[derive(Drop)]
 pub(crate) struct Probe<'k, const N: usize, const M: usize> {
     boxes: u8,
     low: &'k [u8],

@@ -21,7 +21,7 @@ use std::marker::Model;
 use successors::{Parcel, Successor};
 
 /// The positions that a book has found, in keys with `N` low bytes and `M` high ones.
-#[derive(Debug, Drop)]
+#[derive(Drop)]
 pub(crate) struct PositionTable<const N: usize, const M: usize> {
     // the map has capacity for the pending offers
     pending: Vec<(Key<N, M>, Origin)>,
@@ -73,6 +73,7 @@ impl<const N: usize, const M: usize> PositionTable<N, M> {
                 .insert(Key::of(position), ClosedOrigin::of(None))
                 .is_err()
             {
+                drop(table);
                 return Err(AllocError);
             }
         }
@@ -174,8 +175,8 @@ impl<const N: usize, const M: usize> PositionTable<N, M> {
         count_new(&self.table, self.start, share, shares, successors) > left
     }
 
-    /// Offers the parcel's successors of the share in order. The new offers stay pending; if there are at least `most`
-    /// pending ones before, these enter first. Fails only if out of memory, and then changes nothing.
+    /// Offers those successors of the parcel that belong to the share, in their order. The new offers stay pending; if
+    /// there are at least `most` pending ones before, these enter first. Fails only if out of memory, and then changes nothing.
     pub(crate) fn enter_all(
         &mut self,
         most: usize,

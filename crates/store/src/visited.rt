@@ -12,7 +12,7 @@ use std::alloc::{AllocError, Global};
 use std::marker::Model;
 
 /// What a search notes about a position.
-#[derive(Clone, Copy, Debug)]
+#[derive(Clone, Copy)]
 pub struct Label {
     /// The number of pushes that lead to it.
     pub pushes: u32,
@@ -23,7 +23,7 @@ pub struct Label {
 }
 
 /// A position, by its place among the visited ones, and a push that was made there.
-#[derive(Clone, Copy, Debug)]
+#[derive(Clone, Copy)]
 pub struct Parent {
     /// The place of the position.
     pub place: u32,
@@ -32,7 +32,7 @@ pub struct Parent {
 }
 
 // Positions with their labels, in keys of one of the widths.
-#[derive(Debug, Drop)]
+#[derive(Drop)]
 pub(crate) enum AnyLabels {
     NarrowLow(Labels<4, 0>),
     MiddleLow(Labels<12, 0>),
@@ -50,7 +50,7 @@ pub(crate) enum AnyLabels {
 
 /// The positions that a search has visited, each once, in the order in which they first entered, and the label of
 /// each. Places count from 0.
-#[derive(Debug, Drop)]
+#[derive(Drop)]
 pub struct Visited {
     labels: AnyLabels,
 }
