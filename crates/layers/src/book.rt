@@ -32,7 +32,7 @@ pub struct Closed {
 
 /// One share of the layers of a problem: the closed layers, marks for the ranks of the last one while their successors
 /// enter, and the open positions, which become the next layer.
-#[derive(Debug, Drop)]
+#[derive(Drop)]
 pub struct Book {
     pub(crate) problem: Arc<Problem>,
     pub(crate) limit: u32,

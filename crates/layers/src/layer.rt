@@ -16,7 +16,7 @@ use successors::Problem;
 /// A whole layer of a problem: the normal positions whose least push lists through undoomed positions have the layer's
 /// number of pushes, in the order of those lists. Under a cap it has only the positions whose lone boxes can still
 /// reach goals within the cap. A position's rank is its index in the list, from 0.
-#[derive(Debug, Drop)]
+#[derive(Drop)]
 pub struct Layer {
     pub(crate) problem: Arc<Problem>,
     pub(crate) number: u64,

@@ -106,6 +106,7 @@ impl Book {
         let problem = Arc::new(alloc, problem)?;
         let mut scratch = Scratch::new(alloc, level)?;
         let first = first_position(&problem, position, &mut scratch);
+        drop(scratch);
         Book::with_first(alloc, problem, &first, limit, workers, share, shares)
     }
 

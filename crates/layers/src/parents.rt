@@ -7,7 +7,7 @@ use std::marker::Model;
 use store::Origin;
 
 /// The parents of a layer's positions by rank, in one word each: enough to retrace a solution.
-#[derive(Debug, Drop)]
+#[derive(Drop)]
 pub struct Parents {
     origins: Vec<Origin>,
 }

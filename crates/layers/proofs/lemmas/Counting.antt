@@ -21,7 +21,7 @@ length-without r [] a e = absurd (none-some a e)
 length-without zero (x ∷ xs) a e = refl
 length-without (suc r) (x ∷ xs) a e = ap suc (length-without r xs a e)
 
--- what stands at another place is still there
+-- an element at another index than r stays in the list without index r
 in_without : {A : Type 0} (r s : ℕ) (xs : List A) (a : A) → slice_get xs s ≡ Some a → (s ≡ r) ⊎ IsIn (without r xs) a
 in_without r s [] a e = absurd (none-some a e)
 in_without zero zero (x ∷ xs) a e = inl refl
