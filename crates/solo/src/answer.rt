@@ -6,7 +6,7 @@ use std::alloc::AllocError;
 use thiserror::Error;
 
 /// The result of a search for the solution with the fewest pushes.
-#[derive(Debug, Drop)]
+#[derive(Drop)]
 pub enum Answer {
     /// The least solution: the fewest pushes, then the least push list, then the fewest moves, then the least text in
     /// the order `d`, `l`, `r`, `u`. `positions` counts the positions that `pushes` pushes or fewer reach through

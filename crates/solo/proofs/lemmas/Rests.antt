@@ -23,6 +23,6 @@ all_closed lent books after done (same, ahead) (kept, rest) = (
   λ i v at. (let u = ahead i v at in let w = rest i u.0 u.1 in (w.0, w.1, once v u.0 w.0 (done i v at) u.2 w.2)),
 )
 
--- none of them has closed yet
+-- the books as they are before any has closed the next layer
 pub none_closed : (books : List BookView) → MayBeClosedEach books books
 none_closed books = (refl, λ i v at. (v, at, inl refl))
