@@ -7,6 +7,7 @@ ghost use Rattle.grid.specs.States.{FitsLevel};
 ghost use Rattle.doom.specs.Deadlocks.{Undoomed};
 ghost use Rattle.layers.specs.LayerView.{IsWhole};
 
+use crate::parents::parent_in;
 use grid::{Level, MAX_BOXES, Position, Push, Square};
 use std::marker::Model;
 use std::sync::Arc;
@@ -111,8 +112,7 @@ impl Layer {
     pub fn parent(&self, rank: u64) -> Option<(u64, Push)>
         ensures { result ≡ slice_get self.now.origins rank }
     {
-        let origin = self.origins.get(rank as usize)?;
-        Some(origin.parts())
+        parent_in(self.origins.as_slice(), rank)
     }
 
     // The number of boxes of a position.

@@ -41,7 +41,14 @@ impl Parents {
     pub fn parent(&self, rank: u64) -> Option<(u64, Push)>
         ensures { result ≡ slice_get self.now rank }
     {
-        let origin = self.origins.get(rank as usize)?;
-        Some(origin.parts())
+        parent_in(self.origins.as_slice(), rank)
     }
+}
+
+/// The parent of the position with a rank, as [`Parents::parent`] gives it, in a layer with these origins.
+pub(crate) fn parent_in(origins: &[Origin], rank: u64) -> Option<(u64, Push)>
+    ensures { result ≡ slice_get origins.now rank }
+{
+    let origin = origins.get(rank as usize)?;
+    Some(origin.parts())
 }
