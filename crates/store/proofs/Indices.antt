@@ -1,9 +1,11 @@
--- Indices of positions among entries: what a look-up gives, and that indices stay while offers enter.
-use Rattle.std.proofs.Common.{◌≡◌, ℕ, zero, suc, ◌+◌, ◌<◌, Bool, true, false, cond, not, is_some, List, [], ◌∷◌, ◌++◌, map, position}
-use Rattle.std.proofs.Common.{Option, Some, refl, sym, ap, ◌∙◌, if◌then◌else◌, arith}
+-- Indices of positions among entries: how they are written, what a look-up gives, and that they stay while offers enter.
+use Rattle.std.proofs.Common.{◌≡◌, ℕ, zero, suc, ◌+◌, ◌<◌, ◌≤◌, Bool, true, false, cond, not, is_some, List, [], ◌∷◌, ◌++◌, length, map, get_or, set}
+use Rattle.std.proofs.Common.{position, Option, Some, inl, inr, refl, sym, ap, subst, ◌∙◌, if◌then◌else◌, arith}
+use Rattle.std.proofs.lemmas.Bool.{cases_lt}
+use Rattle.std.proofs.lemmas.Grind.{get_or-set_at}
 use Rattle.std.proofs.lemmas.Iterator.Adapters.{position_from-zero}
-use Rattle.std.proofs.lemmas.List.{append-nil, append_assoc}
-use Rattle.std.proofs.lemmas.Option.{same_Some, none-some}
+use Rattle.std.proofs.lemmas.List.{append-nil, append_assoc, get_or-set_other}
+use Rattle.std.proofs.lemmas.Option.{same_Some, none-some, slice_get_read}
 use Rattle.std.specs.List.{position_from}
 use Rattle.std.specs.Map.{lookup, keys_of}
 use Rattle.std.specs.Ordering.{is_lt}
@@ -18,6 +20,19 @@ use Rattle.store.specs.inside.Indices.{HasKeyAt}
 use Rattle.store.proofs.Keeping.{standing_kept, standing_less}
 use Rattle.store.proofs.lemmas.Offers.{open_places, same_since, same_true}
 use Rattle.store.proofs.Tails.{split}
+
+-- ---- a row with a number for each element of a list
+
+-- one more number is written
+pub each_written : {A : Type 0} (P : A → ℕ → Type 0) (xs : List A) (row : List ℕ) (nth k : ℕ) (x : A) → nth < length xs → length xs ≤ length row →
+    x ≡ get_or xs nth x → P x k → ((i : ℕ) (y : A) → i < nth → slice_get xs i ≡ Some y → P y (get_or row i 0)) →
+    (i : ℕ) (y : A) → i < nth + 1 → slice_get xs i ≡ Some y → P y (get_or (set row nth k) i 0)
+each_written P xs row nth k x here room read new before i y less at = elim (cases_lt i nth) [
+  | inl lower ↦ subst (P y) (sym (get_or-set_other row nth i k 0 (λ same. omega (arith, same, lower)))) (before i y lower at)
+  | inr more ↦ (let same : i ≡ nth = omega (arith, less, more) in
+      let first : y ≡ x = same_Some y x (sym at ∙ ap (slice_get xs) same ∙ slice_get_read xs (length xs) nth x refl here read) in
+      subst (P y) (sym (get_or-set_at row nth i k 0 same (omega (arith, here, room)))) (subst (λ z. P z k) (sym first) new))
+]
 
 -- ---- what a look-up gives
 
