@@ -1,8 +1,7 @@
 -- Desks, one place after the other.
-use Rattle.std.proofs.Common.{◌≡◌, ◌⊎◌, ℕ, zero, suc, ◌+◌, ◌<◌, List, [], ◌∷◌, ◌++◌, length, get_or, set, Some, inl, inr, sym, ap, ◌∙◌, arith}
+use Rattle.std.proofs.Common.{◌≡◌, ◌⊎◌, ℕ, zero, suc, ◌+◌, List, [], ◌∷◌, ◌++◌, set, Some, inl, inr, ap, ◌∙◌, arith}
 use Rattle.std.specs.Prelude.{slice_get}
 use Rattle.std.proofs.lemmas.Bool.{cases_lt}
-use Rattle.std.proofs.lemmas.Option.{get_or_from_slice_get, slice_get-get_or, slice_get_within}
 use Rattle.successors.proofs.lemmas.Lists.{at_before, each_push, each_set, set_at}
 use Rattle.area.specs.Reach.{Reach}
 use Rattle.claims.specs.Hands.{LedgerView, newcomer}
@@ -26,17 +25,6 @@ drawers_set ledger place desks after given drawers i desk lt at = elim (set_at d
 -- one more desk is as roomy
 pub roomy_push : (size : ℕ) (desks : List Desk) (new : Desk) → new.scratch.size ≡ size → AreRoomy size desks → AreRoomy size (desks ++ new ∷ [])
 roomy_push size desks new room roomy = each_push (λ (d : Desk). d.scratch.size ≡ size) desks new room roomy
-
-pub roomy_none : (size : ℕ) → AreRoomy size []
-roomy_none size i desk at = cc
-
--- where the size of each scratch stays they stay roomy
-pub roomy_each : (size : ℕ) (before after : List Desk) → length after ≡ length before →
-    ((i : ℕ) (d : Desk) → i < length before → (get_or after i d).scratch.size ≡ (get_or before i d).scratch.size) → AreRoomy size before → AreRoomy size after
-roomy_each size before after same kept roomy i desk at =
-    let lt : i < length before = omega (arith, slice_get_within after i desk at, same) in
-    let was : (get_or before i desk).scratch.size ≡ size = roomy i (get_or before i desk) (slice_get-get_or before i desk lt) in
-    ap (λ (d : Desk). d.scratch.size) (sym (get_or_from_slice_get after i desk desk at)) ∙ kept i desk lt ∙ was
 
 -- what stands in the second of two lists stands in both
 pub in_back : {A : Type 0} (xs ys : List A) (i : ℕ) (x : A) → slice_get ys i ≡ Some x → (j : ℕ) × (slice_get (xs ++ ys) j ≡ Some x)

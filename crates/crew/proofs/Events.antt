@@ -111,16 +111,6 @@ accepted_until may nth events after books drawn accepted (Refused refusal) it fe
 accepted_until may nth events after books drawn accepted Foreign it few = few
 accepted_until may nth events after books drawn accepted NoPlace it few = few
 
--- a worker that got no place
-pub asks_nothing : (may : ℕ → Bool → Bool) (books : ℕ) (before after : Hand) → after.numbers ≡ before.numbers → AsksTheGate may books before after NoPlace
-asks_nothing may books before after same = record {
-  drawn = 0;
-  accepted = 0;
-  draws = let long = ap length same in omega (arith, long);
-  parcels = omega arith;
-  answers = λ n some few. absurd (omega (arith, some, few));
-}
-
 -- ---- ranks that are handed back to each book
 
 both_times : (a b n : ℕ) → (a + b) * n ≡ a * n + n * b

@@ -16,7 +16,7 @@ pub struct Config {
 
 impl Config {
     /// Whether these numbers are within their limits.
-    pub(crate) fn is_within_limits(&self) -> bool
+    pub fn is_within_limits(&self) -> bool
         ensures { IsTrue result ↔ IsWithinLimits self.now }
     {
         1 <= self.workers

@@ -107,8 +107,8 @@ fn append_desk<'a>(
     ensures room { AreRoomy (length level.now.cells) desks.old.items →
         AreRoomy (length level.now.cells) desks.new.items }
 {
-    let scratch = Scratch::new(alloc, level)?;
     let parcels = Vec::with_capacity(alloc, most_of_one(workers))?;
+    let scratch = Scratch::new(alloc, level)?;
     desks.push(Desk {
         scratch,
         parcels,

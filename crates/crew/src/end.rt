@@ -1,7 +1,7 @@
 use layers::Refusal;
 
 /// Why a worker ended.
-#[derive(Clone, Copy, PartialEq, Eq, Debug)]
+#[derive(Clone, Copy, PartialEq, Eq)]
 pub enum End {
     /// No rank of the layer was left to draw.
     Drained,

@@ -17,7 +17,7 @@ pub trait Gate {
 }
 
 /// The gate that never stops a worker.
-#[derive(Clone, Copy, Default, Debug)]
+#[derive(Clone, Copy, Default)]
 pub struct Free;
 
 impl Gate for Free {

@@ -91,7 +91,7 @@ pub(crate) fn come_back(books: &[Book], config: Config, layer: &Layer) -> bool
         return false;
     }
     for place in 0..books.len() {
-        if !comes_back(&books[place], place, config, layer) {
+        if !is_lent_book(&books[place], place, config, layer) {
             return false;
         }
     }
@@ -99,7 +99,7 @@ pub(crate) fn come_back(books: &[Book], config: Config, layer: &Layer) -> bool
 }
 
 // Whether a book shows what the book lent at an index must show.
-fn comes_back(book: &Book, place: usize, config: Config, layer: &Layer) -> bool
+fn is_lent_book(book: &Book, place: usize, config: Config, layer: &Layer) -> bool
     requires { IsWithinLimits config }
     ensures { IsTrue result ↔ ComesBack config layer.now place book.now }
 {

@@ -89,7 +89,7 @@ fn search_by<R: Threads + Wait + Sync, G: Gate + Sync>(
     let mut search = Search::new(alloc, problem, config.limit)?;
     // the caller hands back under a number of its own, so the books are made for one more worker
     let books = search.new_books(config.workers + 1, config.locks)?;
-    let state = SearchState {
+    let mut state = SearchState {
         search,
         memory: Vec::new(alloc),
         desks: Desks::of(alloc, &**problem, config.workers),
@@ -99,7 +99,9 @@ fn search_by<R: Threads + Wait + Sync, G: Gate + Sync>(
         config,
         gate,
     };
-    iterate_all(rt, &settings, books, state)
+    let answer = iterate_all(rt, &settings, books, &mut state);
+    drop(state);
+    answer
 }
 
 // Examines layer after layer until there is an answer. `None` if other books came back than those lent. Fails only if
@@ -108,17 +110,17 @@ fn iterate_all<R: Threads + Wait + Sync, G: Gate + Sync>(
     rt: &R,
     settings: &Settings<'_, G>,
     first: Vec<Book>,
-    mut state: SearchState<'_>,
+    state: &mut SearchState<'_>,
 ) -> Result<Option<Answer>, AllocError>
     requires limits { IsWithinLimits settings.now.config }
-    requires first { ArePausedBy settings.now.config state.search first.items }
-    requires state { IsStateOf settings.now.config state }
+    requires first { ArePausedBy settings.now.config state.old.search first.items }
+    requires state { IsStateOf settings.now.config state.old }
     ensures { IfOk result
-        (λ found. IfSome found (λ answer. IsAnswer state.entry.search.problem state.entry.search.limit answer)) }
+        (λ found. IfSome found (λ answer. IsAnswer state.old.search.problem state.old.search.limit answer)) }
 {
     let mut books = first;
     loop {
-        match iterate(rt, settings, books, &mut state)? {
+        match iterate(rt, settings, books, state)? {
             IterationEnd::Onward(next) => books = next,
             IterationEnd::Found(answer) => return Ok(Some(answer)),
             IterationEnd::Foreign => return Ok(None),

@@ -14,7 +14,7 @@ loop-place-preserved c = λ i v lt at. elim (cases_lt i c.loop-place.place) [
       let here : slice_get c.args.books.now place ≡ Some b = slice_get-get_or c.args.books.now place b c.loop-place-test.true
       ∙ ap (λ (x : BookView). Some x) (sym c.index-books-place.is) in let e : place ≡ i = omega arith in
       let same : b ≡ v = same_Some b v (sym here ∙ ap (slice_get c.args.books.now) e ∙ at) in
-      subst (λ k. ComesBack config layer k v) e (subst (ComesBack config layer place) same (c.if-not-comes_back.ensures.0 refl)))
+      subst (λ k. ComesBack config layer k v) e (subst (ComesBack config layer place) same (c.if-not-is_lent_book.ensures.0 refl)))
 ]
 
 pub returns : goal.returns
