@@ -6,3 +6,5 @@ pub mod Solved
 pub mod Helping
 pub mod Tables
 pub mod Looks
+pub mod Lists
+pub mod Slacks

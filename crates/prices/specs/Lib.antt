@@ -1,4 +1,6 @@
 pub mod Solving
 pub mod Prices
 pub mod Helping
+pub mod Fewest
+pub mod Searching
 pub mod inside

@@ -24,6 +24,7 @@
 
 mod check;
 mod distances;
+mod fault;
 pub mod laws;
 mod lost;
 mod matching;
@@ -36,6 +37,7 @@ mod slack;
 mod table;
 
 pub use distances::Distances;
+pub use fault::SearchFault;
 pub use matching::Matching;
 pub use pulls::NEVER;
 pub use slack::Slack;

@@ -18,7 +18,7 @@ use Rattle.prover.specs.declared.pushing.Opened.{Opened}
 use Rattle.prover.specs.Frontier.{IsReachedAfter}
 use Rattle.prover.specs.inside.Rounds.{ArePicks, AreLanes, IsPick}
 use Rattle.prover.specs.inside.Working.{IsExpansion, IsKept, KeepPlaces, MayBeExpanded, IsSearchOnBoard, IsWaiting}
-use Rattle.prover.proofs.lemmas.Pruning.{keeps_so}
+use Rattle.prover.proofs.Keeping.{keeps_so}
 use Rattle.prover.proofs.Openings.{found_on}
 
 -- what holds of each element of a list holds of the one at a place

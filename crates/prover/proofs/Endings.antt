@@ -9,7 +9,8 @@ use Rattle.prices.specs.Solving.{Allows}
 use Rattle.successors.specs.Distances.{AreDistinct}
 use Rattle.store.specs.Visited.{Node, VisitedView}
 use Rattle.successors.proofs.lemmas.Lists.{at_map}
-use Rattle.prover.specs.Fewest.{NoneHasFewer, IsReachable, HasMore}
+use Rattle.prices.specs.Fewest.{NoneHasFewer}
+use Rattle.prover.specs.Reachable.{IsReachable, HasMore}
 use Rattle.prover.specs.Frontier.{IsSearchUnderWay, AreFrom, NoneIsOpen}
 use Rattle.prover.specs.inside.Working.{IsLeastOpen, IsSearchOnBoard}
 use Rattle.prover.specs.inside.SearchEnds.{NoneIsAllowed, IsFloor, IsLeastSolved}

@@ -1,4 +1,5 @@
 pub mod lemmas
+pub mod Keeping
 pub mod Columns
 pub mod Turning
 pub mod Openings

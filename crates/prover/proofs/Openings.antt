@@ -16,9 +16,10 @@ use Rattle.doom.specs.Lost.{IsLost}
 use Rattle.prices.specs.Solving.{Allows, SolvableWithin}
 use Rattle.prices.proofs.lemmas.Solving.{solved_before, norms_change_nothing}
 use Rattle.prover.proofs.Deferring.{tightened}
-use Rattle.prover.proofs.lemmas.Pruning.{keeps_so}
+use Rattle.prover.proofs.Keeping.{keeps_so}
 use Rattle.store.specs.Visited.{Node}
-use Rattle.prover.specs.Frontier.{IsFoundWithin, IsDoneFor, IsBelowLeast, IsSettled, IsSoundEntry, AreSoundEntries}
+use Rattle.store.specs.Earlier.{IsFoundWithin}
+use Rattle.prover.specs.Frontier.{IsDoneFor, IsBelowLeast, IsSettled, IsSoundEntry, AreSoundEntries}
 use Rattle.prover.specs.Frontier.{IsOnTheWay, IsBound, ComesFrom, NoneGoesOn, NothingIsLost, LeastBounds, ClosedDecides}
 use Rattle.prover.specs.inside.Working.{KeepPlaces, Expands, tighter}
 use Rattle.store.specs.declared.visited.Parent.{Parent}

@@ -15,7 +15,7 @@ use Rattle.successors.specs.Expansion.{after_push}
 use Rattle.lurd.specs.Verdict.{IsVerdict}
 use Rattle.lurd.specs.declared.verdict.Verdict.TheVariants.{Solved}
 use Rattle.lurd.proofs.lemmas.Solutions.{solved_of_play}
-use Rattle.prover.specs.Fewest.{NoneHasFewer}
+use Rattle.prices.specs.Fewest.{NoneHasFewer}
 use Rattle.prices.specs.Solving.{Allows}
 use Rattle.prices.proofs.lemmas.Solving.{solved_before}
 use Rattle.successors.specs.LeastPlays.{WritesLeastPlay}

@@ -29,14 +29,17 @@ use Rattle.successors.proofs.lemmas.Successors.{after_scene}
 use Rattle.store.specs.Visited.{Node, VisitedView, with_least}
 use Rattle.prover.specs.declared.pushing.Expanded.{Expanded}
 use Rattle.prover.specs.declared.pushing.Opened.{Opened}
-use Rattle.prover.specs.Parity.{SomeHas}
-use Rattle.prover.specs.Frontier.{IsReachedAfter, IsFoundWithin, IsSoundEntry, IsSearchUnderWay, IsBound, IsTotal}
+use Rattle.prices.specs.Searching.{SomeHas}
+use Rattle.prover.specs.Frontier.{IsReachedAfter, IsSoundEntry, IsSearchUnderWay, IsBound, IsTotal}
+use Rattle.store.specs.Earlier.{IsFoundWithin}
 use Rattle.prover.specs.Frontier.{IsLeast, NoneGoesOn}
 use Rattle.prover.specs.inside.Working.{IsWaiting, HasLeastAt, KeepPlaces, Expands, IsPushDone, ArePushesDone, IsChosen}
 use Rattle.prover.specs.inside.Working.{Enters, AreLeading, IsSearchOnBoard, IsFoundAt, IsExpanding, Widens, IsLater}
 use Rattle.prover.specs.inside.Working.{lesser_total, AreEntered, IsKept, IsOpenedPosition, IsOpenedBy, Opens, tighter}
-use Rattle.prover.proofs.lemmas.Lists.{upto_more}
-use Rattle.prover.proofs.lemmas.Pruning.{all_suffice, keeps_so, never_solves, play_by_push}
+use Rattle.prices.proofs.lemmas.Lists.{upto_more}
+use Rattle.prover.proofs.Keeping.{all_suffice, keeps_so}
+use Rattle.prices.proofs.lemmas.Slacks.{never_solves}
+use Rattle.successors.proofs.lemmas.Pushes.{is_pushed, play_by_push}
 use Rattle.prover.proofs.Openings.{allows_fewer, found_on, settled_open, settled_expanded, sound_on}
 use Rattle.prover.proofs.Deferring.{lesser_below}
 use Rattle.prover.proofs.Entering.{goes_then, kept_set, same_turns}
@@ -112,7 +115,7 @@ module _ {board : Board} {s : Scene} {p : Push} (scene : IsScene board s) (can :
       absurd (elim (cases_lt (k + suc (length ps)) low) [
         | inl lt ↦
             (let helps = never (suc (length ps)) (omega (arith, le, lt)) in
-            let more = never_solves board s p scene can v (length ps) same helps ds ps t play solved in
+            let more = never_solves board s (after_push board s p) p scene (is_pushed board s p can) v (length ps) same helps ds ps t play solved in
             omega (arith, more))
         | inr ge ↦
             (let whole = play_by_push board s p scene can can.behind.1 play in

@@ -1,4 +1,3 @@
 -- The lemmas that the proofs of upper crates cite.
-pub mod Lists
-pub mod Pruning
+pub mod Fewest
 pub mod Parity

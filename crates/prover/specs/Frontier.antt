@@ -11,6 +11,7 @@ use Rattle.area.specs.Pushes.{CanPush}
 use Rattle.successors.specs.Expansion.{after_push}
 use Rattle.prices.specs.Solving.{Allows, SolvableWithin}
 use Rattle.store.specs.declared.visited.Parent.{Parent}
+use Rattle.store.specs.Earlier.{IsFoundWithin}
 use Rattle.store.specs.Visited.{Node}
 
 -- ---- what an expansion owes
@@ -21,10 +22,6 @@ use Rattle.store.specs.Visited.{Node}
 abbrev pub Keeps : Board → ℕ → (Scene → Type 0) → ℕ → Scene → Type 0
 Keeps board most Kept k s = (m : ℕ) → k + suc m ≤ most → ¬ (IsSolved board s) → SolvableWithin board (suc m) s →
     (t : Scene) × Kept t × SolvableWithin board m t
-
--- the position was found with at most k pushes
-abbrev pub IsFoundWithin : List Node → ℕ → Scene → Type 0
-IsFoundWithin all k s = (i : ℕ) × (x : Node) × (slice_get all i ≡ Some x) × (x.position ≡ s) × (x.pushes ≤ k)
 
 -- ---- what holds of each position that was found
 

@@ -1,4 +1,4 @@
-pub mod Fewest
+pub mod Reachable
 pub mod Parity
 pub mod Frontier
 pub mod Outcomes

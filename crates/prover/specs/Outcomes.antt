@@ -1,17 +1,14 @@
 -- What a search for a solution with the fewest pushes says.
-use Rattle.std.specs.Prelude.{◌≡◌, ℕ, ◌<◌, length, Option, Some, None}
+use Rattle.std.specs.Prelude.{◌≡◌, ℕ, length, Option, Some, None}
 use Rattle.grid.specs.Board.{Board, start}
-use Rattle.grid.specs.Lawful.{box_count}
-use Rattle.grid.specs.declared.limits.TheConstants.{MAX_BOXES}
 use Rattle.lurd.specs.Verdict.{IsVerdict}
 use Rattle.lurd.specs.declared.verdict.Verdict.TheVariants.{Solved}
 use Rattle.doom.specs.Lost.{IsLost}
 use Rattle.prices.specs.Solving.{Allows, NoneWithin as NonePlays}
-use Rattle.prover.specs.Fewest.{NoneHasFewer, HasMore}
+use Rattle.prices.specs.Fewest.{NoneHasFewer}
+use Rattle.prover.specs.Reachable.{HasMore}
 use Rattle.prover.specs.declared.outcome.Outcome.{Outcome}
 use Rattle.prover.specs.declared.outcome.Outcome.TheVariants.{Least, NoneWithin, Unsolvable, Limit}
-use Rattle.prover.specs.declared.outcome.SearchFault.{SearchFault}
-use Rattle.prover.specs.declared.outcome.SearchFault.TheVariants.{TooManyBoxes, OutOfMemory}
 
 -- what the outcome says of a level, a cap on pushes, and a limit of positions
 abbrev pub IsOutcome : Board → Option ℕ → ℕ → Outcome → Type 0
@@ -21,8 +18,3 @@ IsOutcome board cap limit NoneWithin = (most : ℕ) × (cap ≡ Some most) × No
 IsOutcome board cap limit Unsolvable = (cap ≡ None) × IsLost board (start board)
 IsOutcome board cap limit (Limit at_least) =
     NoneHasFewer board at_least × HasMore board limit × Allows cap at_least
-
--- why a search failed: the level has too many boxes; or memory ran out, and no solution has fewer pushes than the bound
-abbrev pub IsFault : Board → SearchFault → Type 0
-IsFault board TooManyBoxes = MAX_BOXES < box_count board
-IsFault board (OutOfMemory at_least) = NoneHasFewer board at_least

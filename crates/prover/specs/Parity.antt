@@ -4,10 +4,11 @@ use Rattle.grid.specs.declared.dir.Dir.{Dir}
 use Rattle.grid.specs.declared.square.Push.{Push}
 use Rattle.grid.specs.Board.{Board, Scene, IsSolved, start}
 use Rattle.grid.specs.States.{FitsLevel}
-use Rattle.grid.specs.Plays.{Play, Any, IsSolution}
+use Rattle.grid.specs.Plays.{Play, Any}
 use Rattle.grid.specs.Lawful.{IsLevel}
 use Rattle.prices.specs.Solving.{NoneWithin}
-use Rattle.prover.specs.Fewest.{NoneHasFewer}
+use Rattle.prices.specs.Fewest.{NoneHasFewer}
+use Rattle.prices.specs.Searching.{SomeHas}
 
 -- the number is odd
 abbrev pub is_odd : ℕ → Bool
@@ -19,10 +20,6 @@ abbrev pub SolutionsAlike : Board → Type 0
 SolutionsAlike board = IsLevel board → (s t u : Scene) (ds es : List Dir) (ps qs : List Push) → FitsLevel board s →
     Play board Any s ds ps t →
     IsSolved board t → Play board Any s es qs u → IsSolved board u → is_odd (length ps) ≡ is_odd (length qs)
-
--- some solution has this number of pushes
-abbrev pub SomeHas : Board → ℕ → Type 0
-SomeHas board pushes = (ds : List Dir) × (ps : List Push) × IsSolution board ds ps × (length ps ≡ pushes)
 
 -- all solutions have an odd number of pushes if `odd` is true, and an even one otherwise
 abbrev pub AreOdd : Board → Bool → Type 0

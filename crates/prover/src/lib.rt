@@ -39,6 +39,7 @@ mod rounds;
 mod searching;
 mod workspace;
 
-pub use outcome::{Outcome, SearchFault};
+pub use outcome::Outcome;
+pub use prices::SearchFault;
 pub use progress::{Progress, Unheard};
 pub use searching::search;

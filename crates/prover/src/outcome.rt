@@ -1,9 +1,4 @@
-ghost use Rattle.std.specs.Prelude.{◌≡◌};
-ghost use Rattle.prover.specs.declared.outcome.SearchFault.TheVariants.{OutOfMemory};
-
-use grid::{MAX_BOXES, Moves};
-use std::alloc::AllocError;
-use thiserror::Error;
+use grid::Moves;
 
 /// What a search for a solution with the fewest pushes found.
 #[derive(Debug, Drop)]
@@ -17,23 +12,4 @@ pub enum Outcome {
     /// The search found more positions than the limit; every solution has at least this many pushes, a number that the
     /// cap allows.
     Limit { at_least: u32 },
-}
-
-/// Why a search failed.
-#[derive(Clone, Copy, PartialEq, Eq, Debug, Drop, Error)]
-pub enum SearchFault {
-    /// The level has more boxes than [`MAX_BOXES`](grid::MAX_BOXES).
-    #[error("more than {MAX_BOXES} boxes")]
-    TooManyBoxes,
-    /// The search ran out of memory. Every solution has at least this many pushes.
-    #[error("out of memory")]
-    OutOfMemory { at_least: u32 },
-}
-
-impl From<AllocError> for SearchFault {
-    ghost from_gives = { λ _ fault. fault ≡ OutOfMemory 0 };
-
-    fn from(_error: AllocError) -> Self {
-        SearchFault::OutOfMemory { at_least: 0 }
-    }
 }

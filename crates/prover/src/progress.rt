@@ -1,4 +1,4 @@
-ghost use Rattle.prover.specs.Fewest.{NoneHasFewer};
+ghost use Rattle.prices.specs.Fewest.{NoneHasFewer};
 
 use grid::Level;
 

@@ -4,7 +4,7 @@ ghost use Rattle.grid.specs.States.{FitsLevel};
 ghost use Rattle.doom.specs.Lost.{IsLost};
 ghost use Rattle.prices.specs.Solving.{Allows};
 ghost use Rattle.prover.specs.Frontier.{IsReachedAfter, IsBound, IsTotal, NoneGoesOn};
-ghost use Rattle.prover.specs.Parity.{SomeHas};
+ghost use Rattle.prices.specs.Searching.{SomeHas};
 
 use crate::parity::{are_odd, next_of};
 use grid::{Level, MAX_BOXES, Position};

@@ -1,7 +1,7 @@
 //! What an expansion has found enters the frontier.
 ghost use Rattle.std.specs.Prelude.{◌≡◌, ℕ, suc, ◌<◌, ◌≤◌, OnOk, length};
 ghost use Rattle.grid.specs.Board.{Scene};
-ghost use Rattle.prover.specs.Frontier.{IsFoundWithin};
+ghost use Rattle.store.specs.Earlier.{IsFoundWithin};
 ghost use Rattle.prover.specs.inside.Working.{AreOpenedBy, IsExpanding, IsExpansion, IsOpenedPosition};
 ghost use Rattle.prover.specs.inside.Working.{IsOpenedBy, IsSearchOnBoard};
 ghost use Rattle.prover.specs.inside.Working.{GetsOn, MayBeExpanded, IsWaiting, Widens, turns_left};

@@ -19,9 +19,9 @@ use Rattle.lurd.specs.declared.verdict.Verdict.TheVariants.{Solved}
 use Rattle.lurd.proofs.lemmas.Solutions.{moves_of_play, solved_of_play}
 use Rattle.prices.specs.Solving.{SolvableWithin}
 use Rattle.prices.proofs.lemmas.Solving.{solved_before}
-use Rattle.prover.specs.Parity.{SomeHas}
-use Rattle.prover.proofs.lemmas.Lists.{in_range}
-use Rattle.prover.proofs.lemmas.Pruning.{play_by_push}
+use Rattle.prices.specs.Searching.{SomeHas}
+use Rattle.prices.proofs.lemmas.Lists.{in_range}
+use Rattle.successors.proofs.lemmas.Pushes.{play_by_push}
 use Rattle.store.specs.Visited.{Node}
 use Rattle.successors.specs.Expansion.{after_push}
 use Rattle.successors.specs.LeastPlays.{ArePlayed, WritesLeastPlay}

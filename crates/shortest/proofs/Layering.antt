@@ -18,9 +18,10 @@ use Rattle.doom.specs.Lost.{IsLost}
 use Rattle.prices.specs.Helping.{NeverHelps, SlackView}
 use Rattle.prices.specs.Solving.{Allows, NoneWithin, SolvableWithin}
 use Rattle.prices.proofs.lemmas.Solving.{none_is_not_solvable}
-use Rattle.prover.specs.Frontier.{IsFoundWithin}
-use Rattle.prover.proofs.lemmas.Lists.{upto_more}
-use Rattle.prover.proofs.lemmas.Pruning.{never_solves, play_by_push}
+use Rattle.store.specs.Earlier.{IsFoundWithin}
+use Rattle.prices.proofs.lemmas.Lists.{upto_more}
+use Rattle.prices.proofs.lemmas.Slacks.{never_solves}
+use Rattle.successors.proofs.lemmas.Pushes.{is_pushed, play_by_push}
 use Rattle.store.specs.FoundView.{FitsGrid}
 use Rattle.store.specs.Visited.{Node, HasEntered, entry_of}
 use Rattle.store.specs.declared.visited.Label.{Label}
@@ -263,7 +264,7 @@ pub never_on : (board : Board) (left : ℕ) (v : SlackView) (s : Scene) (p : Pus
     ((m : ℕ) → Allows v.left m → NeverHelps v.board (suc m) v.scene p.square p.dir) →
     ¬ (SolvableWithin board left (after_push board s p))
 never_on board left v s p same scene can never = (none_is_not_solvable board left (after_push board s p)).0
-    (never_solves board s p scene can v left (same.0, same.1)
+    (never_solves board s (after_push board s p) p scene (is_pushed board s p can) v left (same.0, same.1)
     (never left (subst (λ (o : Option ℕ). Allows o left) (sym same.2) (omega arith))))
 
 -- a state from which no play ends solved

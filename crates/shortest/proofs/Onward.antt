@@ -18,9 +18,9 @@ use Rattle.area.specs.LeastWalks.{IsWalk}
 use Rattle.area.specs.Pushes.{ArePushes, CanPush}
 use Rattle.prices.specs.Solving.{SolvableWithin}
 use Rattle.prices.proofs.lemmas.Solving.{push_possible, solved_before}
-use Rattle.prover.specs.Fewest.{NoneHasFewer}
-use Rattle.prover.proofs.lemmas.Lists.{upto_more}
-use Rattle.prover.proofs.lemmas.Pruning.{moved, play_by_push}
+use Rattle.prices.specs.Fewest.{NoneHasFewer}
+use Rattle.prices.proofs.lemmas.Lists.{upto_more}
+use Rattle.successors.proofs.lemmas.Pushes.{moved, play_by_push}
 use Rattle.store.specs.Places.{IsPlaceOf}
 use Rattle.store.specs.Visited.{Node, IsNew}
 use Rattle.successors.specs.Distances.{AreDistinct}

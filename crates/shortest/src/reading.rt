@@ -3,7 +3,7 @@ ghost use Rattle.std.specs.Prelude.{◌≡◌, ℕ, IfOk, Some, length, slice_ge
 ghost use Rattle.grid.specs.Board.{start};
 ghost use Rattle.lurd.specs.Verdict.{IsVerdict};
 ghost use Rattle.lurd.specs.declared.verdict.Verdict.TheVariants.{Solved};
-ghost use Rattle.prover.specs.Parity.{SomeHas};
+ghost use Rattle.prices.specs.Searching.{SomeHas};
 ghost use Rattle.shortest.specs.Shortest.{NoneIsBetter};
 ghost use Rattle.shortest.specs.inside.Resting.{AreRests, Finishes};
 

@@ -1,7 +1,7 @@
 //! All listed states.
 ghost use Rattle.std.specs.Prelude.{◌≡◌, ◌<◌, length};
 ghost use Rattle.grid.specs.States.{FitsLevel};
-ghost use Rattle.prover.specs.Fewest.{NoneHasFewer};
+ghost use Rattle.prices.specs.Fewest.{NoneHasFewer};
 ghost use Rattle.store.specs.Places.{IsPlaceOf};
 ghost use Rattle.shortest.specs.inside.Listing.{AreAllExpanded, IsEntryAt, IsStateList};
 

@@ -13,12 +13,13 @@ use Rattle.lurd.specs.declared.fault.LurdFault.{LurdFault}
 use Rattle.lurd.specs.declared.limits.TheConstants.{MAX_MOVES}
 use Rattle.lurd.specs.declared.verdict.Verdict.{Verdict}
 use Rattle.lurd.specs.declared.verdict.Verdict.TheVariants.{Solved, Unsolved, Blocked, WrongCase}
-use Rattle.prover.specs.Fewest.{NoneHasFewer}
-use Rattle.prover.specs.Outcomes.{IsFault, IsOutcome}
+use Rattle.prices.specs.Fewest.{NoneHasFewer}
+use Rattle.prices.specs.Searching.{IsFault}
+use Rattle.prover.specs.Outcomes.{IsOutcome}
 use Rattle.prover.specs.declared.outcome.Outcome.{Outcome}
 use Rattle.prover.specs.declared.outcome.Outcome.TheVariants.{Least, NoneWithin, Unsolvable, Limit}
-use Rattle.prover.specs.declared.outcome.SearchFault.{SearchFault}
-use Rattle.prover.specs.declared.outcome.SearchFault.TheVariants.{TooManyBoxes, OutOfMemory}
+use Rattle.prices.specs.declared.fault.SearchFault.{SearchFault}
+use Rattle.prices.specs.declared.fault.SearchFault.TheVariants.{TooManyBoxes, OutOfMemory}
 use Rattle.shortest.specs.Outcomes.{IsMovesOutcome}
 use Rattle.shortest.specs.Shortest.{NoneIsBetter}
 use Rattle.shortest.specs.declared.outcome.MovesOutcome.{MovesOutcome}

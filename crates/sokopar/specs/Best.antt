@@ -5,7 +5,8 @@ use Rattle.grid.specs.declared.dir.Dir.{Dir}
 use Rattle.grid.specs.declared.square.Push.{Push}
 use Rattle.grid.specs.Plays.{IsSolution}
 use Rattle.lurd.specs.Text.{bytes_of}
-use Rattle.prover.specs.Fewest.{NoneHasFewer, HasMore}
+use Rattle.prices.specs.Fewest.{NoneHasFewer}
+use Rattle.prover.specs.Reachable.{HasMore}
 use Rattle.sokopar.specs.Listing.{Listed, IsLevelListing, level_at}
 use Rattle.sokopar.specs.Moves.{IsBestSolution, best_words, claim_status}
 use Rattle.sokopar.specs.Report.{Report, ReportsOn, IsSearchOf, cap_words, line, one_line}

@@ -6,7 +6,7 @@ use Rattle.grid.specs.Lawful.{box_count}
 use Rattle.grid.specs.declared.fault.LevelFault.{LevelFault}
 use Rattle.grid.specs.declared.limits.TheConstants.{MAX_BOXES}
 use Rattle.lurd.specs.Text.{bytes_of}
-use Rattle.prover.specs.Fewest.{NoneHasFewer}
+use Rattle.prices.specs.Fewest.{NoneHasFewer}
 use Rattle.sokopar.specs.Best.{Finds, outcome_words}
 use Rattle.sokopar.specs.Levels.{BeginsReportOnLevels, IsReportOnLevels, count_of}
 use Rattle.sokopar.specs.Listing.{Listed}

@@ -4,7 +4,7 @@ use Rattle.grid.specs.Board.{Board}
 use Rattle.grid.specs.declared.moves.Letter.{Letter}
 use Rattle.lurd.specs.Verdict.{IsVerdict}
 use Rattle.lurd.specs.declared.verdict.Verdict.TheVariants.{Solved}
-use Rattle.prover.specs.Fewest.{NoneHasFewer}
+use Rattle.prices.specs.Fewest.{NoneHasFewer}
 use Rattle.shortest.specs.Shortest.{NoneIsBetter, HasMoreStates}
 use Rattle.sokopar.specs.Report.{counts_words}
 use Rattle.sokopar.specs.declared.moves.BestSolution.{BestSolution}

@@ -11,7 +11,7 @@ use Rattle.lurd.specs.Verdict.{IsVerdict}
 use Rattle.lurd.specs.declared.fault.LurdFault.{LurdFault}
 use Rattle.lurd.specs.declared.verdict.Verdict.{Verdict}
 use Rattle.lurd.specs.declared.verdict.Verdict.TheVariants.{Solved}
-use Rattle.prover.specs.Fewest.{NoneHasFewer}
+use Rattle.prices.specs.Fewest.{NoneHasFewer}
 use Rattle.sokopar.specs.Best.{IsUndecided, undecided_words}
 use Rattle.sokopar.specs.Levels.{kind_status}
 use Rattle.sokopar.specs.Listing.{Listed, IsLevelListing, level_at}

@@ -3,8 +3,8 @@ ghost use Rattle.std.specs.Prelude.{◌≡◌, ◌++◌, ◌≤◌, length, IfOk
 ghost use Rattle.grid.specs.Lawful.{box_count};
 ghost use Rattle.lurd.specs.Verdict.{IsVerdict};
 ghost use Rattle.lurd.specs.declared.verdict.Verdict.TheVariants.{Solved};
-ghost use Rattle.prover.specs.Fewest.{NoneHasFewer};
-ghost use Rattle.prover.specs.Parity.{SomeHas};
+ghost use Rattle.prices.specs.Fewest.{NoneHasFewer};
+ghost use Rattle.prices.specs.Searching.{SomeHas};
 ghost use Rattle.shortest.specs.Improving.{IsNoWorse};
 ghost use Rattle.shortest.specs.Outcomes.{IsMovesOutcome};
 ghost use Rattle.sokopar.specs.Moves.{IsBestSolution, best_words, claim_kind, claim_status, claim_verdict};

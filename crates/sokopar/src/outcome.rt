@@ -2,8 +2,9 @@
 ghost use Rattle.std.specs.Prelude.{◌≤◌, ℕ, Option, IfErr, IfOk, OnOk};
 ghost use Rattle.grid.specs.Board.{Board};
 ghost use Rattle.grid.specs.Lawful.{box_count};
-ghost use Rattle.prover.specs.Fewest.{NoneHasFewer};
-ghost use Rattle.prover.specs.Outcomes.{IsFault, IsOutcome};
+ghost use Rattle.prices.specs.Fewest.{NoneHasFewer};
+ghost use Rattle.prices.specs.Searching.{IsFault};
+ghost use Rattle.prover.specs.Outcomes.{IsOutcome};
 ghost use Rattle.sokopar.specs.Best.{Finds};
 
 use crate::moves::{BestSolution, best_solution};

@@ -7,7 +7,8 @@ use Rattle.prover.specs.declared.outcome.Outcome.{Outcome}
 use Rattle.prover.specs.declared.outcome.Outcome.TheVariants.{NoneWithin, Unsolvable}
 use Rattle.prover.specs.declared.searching.SearchEnd.{SearchEnd}
 use Rattle.prover.specs.declared.searching.SearchEnd.TheVariants.{Closed, Solved, Limit}
-use Rattle.prover.specs.Fewest.{NoneHasFewer, HasMore}
+use Rattle.prices.specs.Fewest.{NoneHasFewer}
+use Rattle.prover.specs.Reachable.{HasMore}
 use Rattle.store.specs.Visited.{Node}
 
 -- no play that the cap allows ends solved

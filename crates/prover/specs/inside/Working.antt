@@ -19,7 +19,8 @@ use Rattle.prover.specs.declared.pushing.Expanded.{Expanded}
 use Rattle.prover.specs.declared.pushing.Opened.{Opened}
 use Rattle.prover.specs.declared.queue.Ticket.{Ticket}
 use Rattle.store.specs.Visited.{Node, VisitedView, with_least}
-use Rattle.prover.specs.Frontier.{IsReachedAfter, IsFoundWithin, IsTotal, Keeps, AreFew, AreFrom, ComesFrom}
+use Rattle.prover.specs.Frontier.{IsReachedAfter, IsTotal, Keeps, AreFew, AreFrom, ComesFrom}
+use Rattle.store.specs.Earlier.{IsFoundWithin}
 use Rattle.prover.specs.Frontier.{IsSearchUnderWay}
 
 -- ---- the queue

@@ -1,35 +1,20 @@
 -- Solutions with the fewest pushes.
-use Rattle.std.proofs.Common.{◌≡◌, ◌≤◌, ℕ, suc, List, Option, Some, inl, inr, length, unwrap_or, sym, ap, subst, arith}
+use Rattle.std.proofs.Common.{◌≡◌, ◌≤◌, ℕ, List, inl, inr, length, sym, subst, arith}
 use Rattle.grid.specs.Board.{Board}
-use Rattle.grid.specs.Lawful.{IsLevel}
 use Rattle.grid.specs.declared.moves.Letter.{Letter}
 use Rattle.lurd.specs.Verdict.{IsVerdict}
 use Rattle.lurd.specs.declared.verdict.Verdict.{Verdict}
 use Rattle.lurd.specs.declared.verdict.Verdict.TheVariants.{Solved}
 use Rattle.lurd.proofs.lemmas.Solutions.{solution_of_solved}
-use Rattle.prover.specs.Fewest.{NoneHasFewer}
-use Rattle.prover.specs.Parity.{SomeHas, TwoLessDecide}
+use Rattle.prices.specs.Fewest.{NoneHasFewer}
+use Rattle.prices.specs.Searching.{SomeHas}
 use Rattle.shortest.specs.Improving.{IsNoWorse}
-use Rattle.prover.specs.Outcomes.{IsOutcome}
-use Rattle.prover.specs.declared.outcome.Outcome.{Outcome}
-use Rattle.prover.specs.declared.outcome.Outcome.TheVariants.{NoneWithin}
 
 -- letters that solve a board write a solution
 pub some_has : (board : Board) (letters : List Letter) (v : Verdict) (pushes moves : ℕ) → v ≡ Solved pushes moves → IsVerdict board letters v →
     SomeHas board pushes
 some_has board letters v pushes moves e is =
     let w = solution_of_solved board letters pushes moves (subst (λ (u : Verdict). IsVerdict board letters u) e is) in (_, w.list, w.solution, w.pushes_are)
-
--- none has fewer pushes if none has two pushes less
-pub none_has_fewer : (board : Board) (limit pushes most : ℕ) (o : Outcome) → TwoLessDecide board → IsLevel board → SomeHas board pushes →
-    IsOutcome board (Some most) limit o → o ≡ NoneWithin → pushes ≡ suc (suc most) → NoneHasFewer board pushes
-none_has_fewer board limit pushes most o law level some so e two = by (subst (λ (x : Outcome). IsOutcome board (Some most) limit x) e so)
-  where
-    by : IsOutcome board (Some most) limit NoneWithin → NoneHasFewer board pushes
-    by (cap, is, none) =
-        let same : cap ≡ most = sym (ap (λ (n : Option ℕ). unwrap_or n 0) is) in
-        let long : pushes ≡ suc (suc cap) = omega (arith, same, two) in
-        subst (λ (n : ℕ). NoneHasFewer board n) (sym long) (law level cap (subst (λ (n : ℕ). SomeHas board n) long some) none)
 
 -- letters that are no worse than those with the fewest pushes have the fewest too
 pub still_fewest : (board : Board) (old new : List Letter) (pushes : ℕ) → IsVerdict board old (Solved pushes (length old)) →

@@ -8,8 +8,8 @@ use Rattle.grid.specs.Lawful.{box_count}
 use Rattle.grid.specs.States.{FitsLevel}
 use Rattle.area.specs.Pushes.{CanPush}
 use Rattle.prices.specs.Solving.{SolvableWithin}
-use Rattle.prover.specs.Fewest.{NoneHasFewer}
-use Rattle.prover.specs.Frontier.{IsFoundWithin}
+use Rattle.prices.specs.Fewest.{NoneHasFewer}
+use Rattle.store.specs.Earlier.{IsFoundWithin}
 use Rattle.successors.specs.Distances.{AreDistinct}
 use Rattle.successors.specs.Expansion.{after_push}
 use Rattle.store.specs.Visited.{Node, VisitedView}

@@ -2,9 +2,9 @@ use Rattle.std.proofs.Common.{None, length, refl, sym, subst, ◌∙◌}
 use Rattle.std.specs.Prelude.{IfOk}
 use Rattle.grid.specs.Board.{Board}
 use Rattle.lurd.specs.declared.verdict.Verdict.TheVariants.{Solved}
-use Rattle.prover.specs.Fewest.{NoneHasFewer}
+use Rattle.prices.specs.Fewest.{NoneHasFewer}
 use Rattle.prover.specs.Outcomes.{IsOutcome}
-use Rattle.prover.specs.Parity.{SomeHas}
+use Rattle.prices.specs.Searching.{SomeHas}
 use Rattle.shortest.proofs.lemmas.Fewest.{some_has}
 use Rattle.lower_examples.proofs.fewest_moves.text_of.Goals as goal
 

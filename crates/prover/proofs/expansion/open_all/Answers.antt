@@ -12,7 +12,7 @@ use Rattle.prices.specs.Helping.{SlackView}
 use Rattle.prices.specs.Solving.{Allows}
 use Rattle.prover.specs.inside.Working.{ArePushesDone, IsChosen, IsKept, tighter}
 use Rattle.prover.proofs.Deferring.{loosened}
-use Rattle.prover.proofs.lemmas.Lists.{read_again}
+use Rattle.prices.proofs.lemmas.Lists.{read_again}
 use Rattle.prover.proofs.Steps.{chosen_suffice, expands_by, kept_on, taken_more}
 use Rattle.prover.proofs.expansion.open_all.Goals as goal
 

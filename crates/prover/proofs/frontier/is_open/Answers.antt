@@ -1,6 +1,6 @@
 use Rattle.std.proofs.Common.{rules, ◌<◌, ◌∙◌, length, sym}
 use Rattle.std.proofs.lemmas.Bool.{true≢false}
-use Rattle.prover.proofs.lemmas.Lists.{in_range}
+use Rattle.prices.proofs.lemmas.Lists.{in_range}
 use Rattle.prover.proofs.frontier.is_open.Goals as goal
 
 pub returns-clause-waits : goal.returns-clause-waits

@@ -1,7 +1,8 @@
 use Rattle.std.proofs.Common.{◌≡◌, ◌+◌, ℕ, suc, Option, inl, inr, sym, subst, arith}
 use Rattle.store.proofs.lemmas.Fitting.{level_fits}
 use Rattle.prover.specs.declared.pushing.Opened.{Opened}
-use Rattle.prover.specs.Frontier.{IsReachedAfter, IsBound, IsFoundWithin, IsTotal, NoneGoesOn}
+use Rattle.prover.specs.Frontier.{IsReachedAfter, IsBound, IsTotal, NoneGoesOn}
+use Rattle.store.specs.Earlier.{IsFoundWithin}
 use Rattle.prover.specs.inside.Working.{IsKept, IsPushDone, tighter}
 use Rattle.prover.proofs.Deferring.{defers_one, loosened}
 use Rattle.prover.proofs.Steps.{listed_last, made_for, opens_one, reached_after, taken_found, taken_later, taken_none}

@@ -1,7 +1,7 @@
 use Rattle.std.proofs.Common.{◌≡◌, ◌+◌, ◌∙◌, ℕ, suc, subst, arith}
 use Rattle.std.proofs.lemmas.Result.{on_ok_weaker}
 use Rattle.store.proofs.lemmas.Fitting.{level_fits}
-use Rattle.prover.specs.Frontier.{IsFoundWithin}
+use Rattle.store.specs.Earlier.{IsFoundWithin}
 use Rattle.prover.specs.inside.Working.{Enters, StayBelow}
 use Rattle.prover.proofs.Steps.{entry_by, under_way_after}
 use Rattle.prover.proofs.recording.enter_one.Goals as goal

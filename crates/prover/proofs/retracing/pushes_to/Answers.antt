@@ -2,7 +2,7 @@ use Rattle.std.proofs.Common.{rules, ◌≡◌, ◌<◌, ◌≤◌, ◌∙◌, �
 use Rattle.grid.specs.declared.square.Push.{Push}
 use Rattle.std.proofs.lemmas.Option.{slice_get_within}
 use Rattle.prover.specs.inside.Working.{AreLeading, AreReadBack, pushes_at}
-use Rattle.prover.proofs.lemmas.Lists.{in_range}
+use Rattle.prices.proofs.lemmas.Lists.{in_range}
 use Rattle.prover.proofs.ReadingBack.{back_first, back_more, back_whole, parent_there, pushes_there}
 use Rattle.prover.proofs.retracing.pushes_to.Goals as goal
 

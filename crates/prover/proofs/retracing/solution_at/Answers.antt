@@ -1,7 +1,7 @@
 use Rattle.std.proofs.Common.{List, sym, subst}
 use Rattle.grid.specs.declared.square.Push.{Push}
 use Rattle.successors.specs.LeastPlays.{ArePlayed, WritesLeastPlay}
-use Rattle.prover.proofs.lemmas.Lists.{in_range}
+use Rattle.prices.proofs.lemmas.Lists.{in_range}
 use Rattle.prover.proofs.ReadingBack.{solution_by}
 use Rattle.prover.proofs.retracing.solution_at.Goals as goal
 

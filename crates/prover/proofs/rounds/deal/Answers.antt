@@ -7,7 +7,7 @@ use Rattle.successors.proofs.lemmas.Lists.{each_set}
 use Rattle.prover.specs.inside.Rounds.{IsLane}
 use Rattle.prover.specs.inside.Working.{IsSearchOnBoard}
 use Rattle.prover.proofs.Dealing.{each_at, ready_by}
-use Rattle.prover.proofs.lemmas.Lists.{in_range}
+use Rattle.prices.proofs.lemmas.Lists.{in_range}
 use Rattle.prover.proofs.rounds.deal.Goals as goal
 
 pub add-requires : goal.add-requires

@@ -4,7 +4,7 @@ use Rattle.std.proofs.lemmas.Option.{slice_get_within}
 use Rattle.grid.specs.Board.{Board, Scene, IsSolved}
 use Rattle.grid.specs.Lawful.{IsLevel}
 use Rattle.store.specs.Visited.{VisitedView}
-use Rattle.prover.specs.Fewest.{NoneHasFewer}
+use Rattle.prices.specs.Fewest.{NoneHasFewer}
 use Rattle.prover.specs.Frontier.{NoneIsOpen}
 use Rattle.prover.specs.inside.SearchEnds.{IsFloor}
 use Rattle.prover.specs.inside.Working.{IsLeastOpen, KeepPlaces, IsSearchOnBoard, turns_left}

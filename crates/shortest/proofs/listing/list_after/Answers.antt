@@ -4,7 +4,7 @@ use Rattle.grid.specs.States.{FitsLevel}
 use Rattle.area.specs.Pushes.{ArePushes, CanPush}
 use Rattle.successors.specs.Expanding.{ExpanderView, HasPushesOf}
 use Rattle.successors.specs.Problems.{Problem}
-use Rattle.prover.proofs.lemmas.Lists.{read_again}
+use Rattle.prices.proofs.lemmas.Lists.{read_again}
 use Rattle.shortest.specs.inside.Listing.{ArePushesKept}
 use Rattle.shortest.proofs.Layering.{after_fits, expanded_on, fits_at, pushed_on}
 use Rattle.shortest.proofs.listing.list_after.Goals as goal

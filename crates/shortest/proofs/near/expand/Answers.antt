@@ -4,7 +4,7 @@ use Rattle.grid.specs.States.{FitsLevel}
 use Rattle.area.specs.Pushes.{CanPush}
 use Rattle.successors.specs.Expanding.{ExpanderView, HasPushesOf}
 use Rattle.successors.specs.Problems.{Problem}
-use Rattle.prover.proofs.lemmas.Lists.{read_again}
+use Rattle.prices.proofs.lemmas.Lists.{read_again}
 use Rattle.shortest.proofs.near.expand.Goals as goal
 
 pub find_pushes-requires : goal.find_pushes-requires

@@ -1,7 +1,7 @@
 use Rattle.std.proofs.Common.{IfOk, length, subst, sym}
 use Rattle.lurd.specs.Verdict.{IsVerdict}
 use Rattle.lurd.specs.declared.verdict.Verdict.TheVariants.{Solved}
-use Rattle.prover.specs.Parity.{SomeHas}
+use Rattle.prices.specs.Searching.{SomeHas}
 use Rattle.shortest.specs.Shortest.{NoneIsBetter}
 use Rattle.shortest.specs.inside.Listing.{StatesView}
 use Rattle.shortest.proofs.searching.best_of.Goals as goal

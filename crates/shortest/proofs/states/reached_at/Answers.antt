@@ -1,5 +1,5 @@
 use Rattle.std.proofs.Common.{sym}
-use Rattle.prover.proofs.lemmas.Lists.{in_range}
+use Rattle.prices.proofs.lemmas.Lists.{in_range}
 use Rattle.shortest.proofs.states.reached_at.Goals as goal
 
 pub returns : goal.returns

@@ -4,7 +4,7 @@ use Rattle.grid.specs.States.{FitsLevel}
 use Rattle.area.specs.Pushes.{ArePushes}
 use Rattle.area.specs.WalkLengths.{AreWalkLengths}
 use Rattle.shortest.specs.inside.Resting.{IsWay, moves_of}
-use Rattle.prover.proofs.lemmas.Lists.{read_element}
+use Rattle.prices.proofs.lemmas.Lists.{read_element}
 use Rattle.shortest.proofs.Onward.{best_is, least_more, onward_fits, ways_more}
 use Rattle.shortest.proofs.ways.best_way.Goals as goal
 

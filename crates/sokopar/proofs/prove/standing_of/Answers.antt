@@ -1,6 +1,6 @@
 -- A search for two pushes less decides, and below two pushes none is needed.
 use Rattle.std.proofs.Common.{arith, Some}
-use Rattle.shortest.proofs.lemmas.Fewest.{none_has_fewer}
+use Rattle.prover.proofs.lemmas.Fewest.{none_has_fewer}
 use Rattle.sokopar.proofs.Judging.{limit_bounds, least_of}
 use Rattle.sokopar.proofs.prove.standing_of.Goals as goal
 

@@ -1,6 +1,6 @@
 -- The solution that was found has as many pushes and fewer moves.
 use Rattle.std.proofs.Common.{◌≡◌, ◌<◌, ℕ, length, sym, subst, arith}
-use Rattle.prover.specs.Fewest.{NoneHasFewer}
+use Rattle.prices.specs.Fewest.{NoneHasFewer}
 use Rattle.sokopar.proofs.Judging.{solved_long}
 use Rattle.sokopar.proofs.prove.with_open_moves.Goals as goal
 

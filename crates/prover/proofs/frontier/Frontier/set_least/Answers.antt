@@ -4,7 +4,7 @@ use Rattle.std.specs.BinaryHeap.{heap_items}
 use Rattle.store.specs.Visited.{VisitedView}
 use Rattle.prover.specs.inside.Waiting.{tickets}
 use Rattle.prover.specs.inside.Working.{Waits}
-use Rattle.prover.proofs.lemmas.Lists.{in_range}
+use Rattle.prices.proofs.lemmas.Lists.{in_range}
 use Rattle.prover.proofs.Queues.{queued_same, queued_set, waits_front, waits_wider}
 use Rattle.prover.proofs.frontier.Frontier.set_least.Goals as goal
 

@@ -3,7 +3,7 @@ use Rattle.std.specs.Prelude.{slice_get}
 use Rattle.store.specs.Entries.{same_scene}
 use Rattle.store.specs.Visited.{VisitedView}
 use Rattle.store.proofs.lemmas.Offers.{same_true}
-use Rattle.prover.proofs.lemmas.Lists.{in_range}
+use Rattle.prices.proofs.lemmas.Lists.{in_range}
 use Rattle.prover.proofs.frontier.Frontier.waits.Goals as goal
 
 pub returns : goal.returns

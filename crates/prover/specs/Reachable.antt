@@ -1,15 +1,11 @@
--- The fewest pushes of a level's solutions, and the positions that plays reach.
-use Rattle.std.specs.Prelude.{◌≡◌, ℕ, ◌≤◌, ◌<◌, List, length, slice_get, Some}
+-- The positions that plays reach.
+use Rattle.std.specs.Prelude.{◌≡◌, ℕ, ◌<◌, List, length, slice_get, Some}
 use Rattle.grid.specs.declared.dir.Dir.{Dir}
 use Rattle.grid.specs.declared.square.Push.{Push}
 use Rattle.grid.specs.Board.{Board, Scene, start}
-use Rattle.grid.specs.Plays.{Play, Any, IsSolution}
+use Rattle.grid.specs.Plays.{Play, Any}
 use Rattle.area.specs.Area.{IsNorm}
 use Rattle.successors.specs.Distances.{AreDistinct}
-
--- no solution has fewer pushes
-abbrev pub NoneHasFewer : Board → ℕ → Type 0
-NoneHasFewer board pushes = (ds : List Dir) (ps : List Push) → IsSolution board ds ps → pushes ≤ length ps
 
 -- a play leads from the start to a state whose normal form is the position
 abbrev pub IsReachable : Board → Scene → Type 0
