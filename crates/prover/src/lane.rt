@@ -15,7 +15,7 @@ use std::mem::swap;
 
 /// A position of a round. Once the pick is done, also the positions that its expansion has opened, and the least total
 /// of the pushes that it has left for later.
-#[derive(Debug, Drop)]
+#[derive(Drop)]
 pub(crate) struct Pick {
     pub(crate) from: Expanded,
     pub(crate) opened: Vec<Opened>,
@@ -25,7 +25,7 @@ pub(crate) struct Pick {
 
 /// A workspace with the picks of a round that are done in it. A lane's findings depend on its picks and on those of
 /// earlier rounds. The picks that it gets do not depend on the number of workers, so its findings do not either.
-#[derive(Debug, Drop)]
+#[derive(Drop)]
 pub(crate) struct Lane<'a> {
     pub(crate) workspace: Workspace<'a>,
     pub(crate) picks: Vec<Pick>,

@@ -18,7 +18,7 @@ use std::thread::Threads;
 use successors::Problem;
 
 /// A problem with the lower bounds that the search prunes by. Contracts see the level with its cap.
-#[derive(Debug, Drop)]
+#[derive(Drop)]
 pub(crate) struct Pruner<'a> {
     problem: &'a Problem,
     regions: Regions,

@@ -14,7 +14,7 @@ use std::alloc::AllocError;
 
 /// A position that is expanded, with the number of pushes that led to it, the greatest total that it is expanded for,
 /// and its place.
-#[derive(Debug, Drop)]
+#[derive(Drop)]
 pub(crate) struct Expanded {
     pub(crate) position: Position,
     pub(crate) pushes: u32,
@@ -23,7 +23,7 @@ pub(crate) struct Expanded {
 }
 
 /// A position that an expansion has opened, with the push that leads to it and its total.
-#[derive(Debug, Drop)]
+#[derive(Drop)]
 pub(crate) struct Opened {
     pub(crate) position: Position,
     pub(crate) push: Push,

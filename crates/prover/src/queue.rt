@@ -11,7 +11,7 @@ use std::collections::BinaryHeap;
 
 /// An entry of the queue for an open position. The greatest ticket has the least total, then the most pushes, then the
 /// latest place.
-#[derive(Clone, Copy, PartialEq, Eq, PartialOrd, Ord, Debug)]
+#[derive(Clone, Copy, PartialEq, Eq, PartialOrd, Ord)]
 pub(crate) struct Ticket {
     pub(crate) least: Reverse<u32>,
     pub(crate) pushes: u32,

@@ -27,7 +27,7 @@ const FOUND_EACH: usize = 64;
 const MOST: usize = 64;
 
 /// The memory of a search: the caller's workspace, and the lanes once a round needs them.
-#[derive(Debug, Drop)]
+#[derive(Drop)]
 pub(crate) struct Desk<'a> {
     pub(crate) workspace: Workspace<'a>,
     lanes: Vec<Lane<'a>>,

@@ -42,7 +42,7 @@ const STAGES: [(u32, usize, bool); 8] = [
 ];
 
 /// How a search ends.
-#[derive(Clone, Copy, Debug)]
+#[derive(Clone, Copy)]
 pub(crate) enum SearchEnd {
     /// No position is open.
     Closed,

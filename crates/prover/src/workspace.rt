@@ -10,7 +10,7 @@ use successors::{Expander, Problem};
 /// Memory to expand positions: for their pushes, for the matchings of a position and of one after it, and for a corral.
 /// `opened` are the positions that an expansion has opened, and `next` is the least total of the pushes that it has
 /// left for later.
-#[derive(Debug, Drop)]
+#[derive(Drop)]
 pub(crate) struct Workspace<'a> {
     pub(crate) expander: Expander<'a>,
     pub(crate) matching: Matching,

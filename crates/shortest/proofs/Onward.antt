@@ -21,7 +21,6 @@ use Rattle.prices.proofs.lemmas.Solving.{push_possible, solved_before}
 use Rattle.prices.specs.Fewest.{NoneHasFewer}
 use Rattle.prices.proofs.lemmas.Lists.{upto_more}
 use Rattle.successors.proofs.lemmas.Pushes.{moved, play_by_push}
-use Rattle.store.specs.Places.{IsPlaceOf}
 use Rattle.store.specs.Visited.{Node, IsNew}
 use Rattle.successors.specs.Distances.{AreDistinct}
 use Rattle.successors.specs.Expansion.{after_push}
@@ -363,11 +362,6 @@ pub pushed_is : (board level : Board) (s a t : Scene) (p : Push) (to : ℕ) → 
 pushed_is board level s a t p to level_is copied to_is is =
     let there = to_is ∙ ap (λ (b : Board). next b p.square p.dir) level_is in
     is ∙ (λ i. record { boxes = insert (remove (copied i).boxes p.square) (there i); player = p.square })
-
--- a place that a look-up gives
-pub place_within : (all : List Node) (s t : Scene) (place : ℕ) → s ≡ t → IsPlaceOf all s (Some place) →
-    (y : Node) × (slice_get all place ≡ Some y) × (y.position ≡ t)
-place_within all s t place same (y, at_y, there) = (y, at_y, there ∙ same)
 
 -- for the number of pushes that is left
 pub rest_onward : (board : Board) (most k : ℕ) (s : Scene) (rest : Option ℕ) → k < most →

@@ -14,11 +14,12 @@ use std::marker::Model;
 /// take. Many lists end before. More stages, or regions chosen for the listed states, take longer than they save.
 const STAGES: [(usize, usize); 2] = [(1_000, 128_000), (3_000, 1_000_000)];
 
-/// A level, the fewest pushes of its solutions, and bounds on the pushes that states need. Contracts see the first two.
+/// A level, the greatest number of pushes that is still wanted, and bounds on the pushes that states need. Contracts
+/// see the first two.
 #[derive(Drop)]
 pub(crate) struct Bounds<'a> {
     level: &'a Level,
-    most: u32,
+    cap: u32,
     regions: Regions,
     // how many of the stages have made their tables
     stages: usize,
@@ -30,21 +31,21 @@ impl<'a> Model for Bounds<'a> {
 
     ghost Value = { BoundsView };
 
-    ghost view = { λ a. record { board = a.level.now; most = a.most } };
+    ghost view = { λ a. record { board = a.level.now; cap = a.cap } };
 
     ghost invariant = { λ a. a.regions ≡ a.level.now };
 }
 
 impl<'a> Bounds<'a> {
-    /// The bounds of a level whose solutions have `most` pushes, without tables of regions. Fails only if out of
+    /// The bounds of a level for solutions with at most `cap` pushes, without tables of regions. Fails only if out of
     /// memory.
-    pub(crate) fn of(alloc: Global, level: &'a Level, most: u32) -> Result<Bounds<'a>, AllocError>
+    pub(crate) fn of(alloc: Global, level: &'a Level, cap: u32) -> Result<Bounds<'a>, AllocError>
         requires { box_count level.now ≤ MAX_BOXES }
-        ensures { IfOk result (λ bounds. (bounds.board ≡ level.now) × (bounds.most ≡ most)) }
+        ensures { IfOk result (λ bounds. (bounds.board ≡ level.now) × (bounds.cap ≡ cap)) }
     {
         Ok(Bounds {
             level,
-            most,
+            cap,
             regions: Regions::of_prices(alloc, level)?,
             stages: 0,
         })
@@ -75,18 +76,18 @@ impl<'a> Bounds<'a> {
         self.level
     }
 
-    /// Sets the most pushes of the solutions that are searched for.
-    pub(crate) fn set_most(&mut self, most: u32)
-        ensures { self.new ≡ record { board = self.old.board; most = most } }
+    /// Sets the greatest number of pushes that is still wanted.
+    pub(crate) fn set_cap(&mut self, cap: u32)
+        ensures { self.new ≡ record { board = self.old.board; cap = cap } }
     {
-        self.most = most;
+        self.cap = cap;
     }
 
-    /// The fewest pushes of the level's solutions.
-    pub(crate) fn most(&self) -> u32
-        ensures { result ≡ self.now.most }
+    /// The greatest number of pushes that is still wanted.
+    pub(crate) fn cap(&self) -> u32
+        ensures { result ≡ self.now.cap }
     {
-        self.most
+        self.cap
     }
 
     /// The distances to each goal.

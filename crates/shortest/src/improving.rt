@@ -161,7 +161,7 @@ fn search_once(
     if most > form.states {
         return Ok(Find::default());
     }
-    finder.bounds.set_most(u32::try_from(most).unwrap_or(0));
+    finder.bounds.set_cap(u32::try_from(most).unwrap_or(0));
     let trail = Trail::of(alloc, level, &finder.start, moves)?;
     search_near(
         alloc,

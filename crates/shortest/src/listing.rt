@@ -87,8 +87,8 @@ fn list_all(
     listed: &mut Visited,
 ) -> Result<bool, AllocError>
     requires board { problem.now.board ≡ bounds.old.board }
-    requires listing { IsStateList bounds.old.board bounds.old.most 0 listed.old }
-    ensures { IfOk result (λ whole. EndsListing bounds.old.board bounds.old.most limit listed.new whole) }
+    requires listing { IsStateList bounds.old.board bounds.old.cap 0 listed.old }
+    ensures { IfOk result (λ whole. EndsListing bounds.old.board bounds.old.cap limit listed.new whole) }
 {
     let mut workspace = Workspace::new(alloc, problem)?;
     let mut place = 0;
@@ -110,14 +110,14 @@ fn expand(
     place: usize,
     workspace: &mut Workspace<'_>,
 ) -> Result<(), AllocError>
-    requires listing { IsStateList bounds.now.board bounds.now.most place listed.old }
+    requires listing { IsStateList bounds.now.board bounds.now.cap place listed.old }
     requires place { place < length listed.old.entries }
     requires board { workspace.old.expander.problem.board ≡ bounds.now.board }
-    ensures listing { OnOk result (IsStateList bounds.now.board bounds.now.most (suc place) listed.new) }
+    ensures listing { OnOk result (IsStateList bounds.now.board bounds.now.cap (suc place) listed.new) }
     ensures board { workspace.new.expander.problem.board ≡ bounds.now.board }
 {
     let from = reached_at(listed, place);
-    if from.pushes >= bounds.most() {
+    if from.pushes >= bounds.cap() {
         return Ok(());
     }
     list_after(bounds, &from, place, listed, workspace)
@@ -131,11 +131,11 @@ fn list_after(
     listed: &mut Visited,
     workspace: &mut Workspace<'_>,
 ) -> Result<(), AllocError>
-    requires listing { IsStateList bounds.now.board bounds.now.most place listed.old }
+    requires listing { IsStateList bounds.now.board bounds.now.cap place listed.old }
     requires at_place { IsEntryAt listed.old.entries place from.now.state from.now.pushes }
-    requires fewer { from.now.pushes < bounds.now.most }
+    requires fewer { from.now.pushes < bounds.now.cap }
     requires board { workspace.old.expander.problem.board ≡ bounds.now.board }
-    ensures listing { OnOk result (IsStateList bounds.now.board bounds.now.most (suc place) listed.new) }
+    ensures listing { OnOk result (IsStateList bounds.now.board bounds.now.cap (suc place) listed.new) }
     ensures board { workspace.new.expander.problem.board ≡ bounds.now.board }
 {
     workspace.expander.find_pushes(&from.state);
@@ -143,7 +143,7 @@ fn list_after(
     bounds
         .distances()
         .meet(&from.state, &mut workspace.matching);
-    let left = bounds.most() - from.pushes - 1;
+    let left = bounds.cap() - from.pushes - 1;
     let slack = Slack::of(
         bounds.distances(),
         &from.state,

@@ -100,7 +100,7 @@ pub(crate) fn search_near(
     ensures ready { IsMemoryFor bounds.now.board memory.new }
 {
     let level = bounds.level();
-    let most = bounds.most();
+    let most = bounds.cap();
     let mut listed = Visited::of(alloc, level.boxes(), level.squares());
     let _ = listed.enter(start, label_of(0, 0, None))?;
     let mut vicinity = Vicinity::of(alloc, level, trail)?;

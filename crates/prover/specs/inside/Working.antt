@@ -33,7 +33,7 @@ Waits tickets least place = (t : Ticket) × Contains tickets t × (t.least.0 ≡
 abbrev pub StillWait : List Ticket → List Ticket → Type 0
 StillWait old new = (least place : ℕ) → Waits old least place → Waits new least place
 
--- all but the ticket do
+-- every ticket that waited still waits, except this one
 abbrev pub OthersWait : Ticket → List Ticket → List Ticket → Type 0
 OthersWait t old new =
     (least place : ℕ) → Waits old least place → Waits new least place ⊎ ((least ≡ t.least.0) × (place ≡ t.place))

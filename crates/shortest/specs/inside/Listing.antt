@@ -15,10 +15,10 @@ use Rattle.successors.specs.Expansion.{after_push}
 use Rattle.store.specs.Visited.{Node, VisitedView}
 use Rattle.shortest.specs.Shortest.{IsReachedBy}
 
--- a level and the fewest pushes of its solutions
+-- a level and the greatest number of pushes that is still wanted
 pub record BoundsView : Type 0 where
   pub board : Board
-  pub most : ℕ
+  pub cap : ℕ
 
 -- a play with these pushes leads to the listed state
 pub record IsReachedState (board : Board) (most : ℕ) (x : Node) : Type 0 where

@@ -38,7 +38,7 @@ state_after-after-requires-clause-possible c =
 pub loop-index-preserved : goal.loop-index-preserved
 loop-index-preserved c =
     let board = c.args.bounds.now.board in
-    let most = c.args.bounds.now.most in
+    let cap = c.args.bounds.now.cap in
     let s = c.args.from.now.state in
     let k = c.args.from.now.pushes in
     let was = c.loop-index.invariant in
@@ -51,9 +51,9 @@ loop-index-preserved c =
     c.pushes.ensures c.loop-index-test.true c.index-pushes-index.is in
     let can = subst (λ (b : Board). CanPush b s p) was.board (was.found.pushes.each c.loop-index.index p here) in
     let fewer = c.requires.fewer in
-    let top = c.most.ensures in
-    let step = pushed_on board most c.args.place c.loop-index.listed.entries k s p was.listing.listed was.at_place fewer can new.entries
-    (c.most.result - k - 1) (k + 1) c.state_after-after.result ps c.loop-index.index (omega (arith, fewer, top)) (omega arith) here
+    let top = c.cap.ensures in
+    let step = pushed_on board cap c.args.place c.loop-index.listed.entries k s p was.listing.listed was.at_place fewer can new.entries
+    (c.cap.result - k - 1) (k + 1) c.state_after-after.result ps c.loop-index.index (omega (arith, fewer, top)) (omega arith) here
     c.state_after-after.ensures.after c.in_ok-list_if_some.ensures.lists was.kept in
     let size = c.list_if_some.ensures.size in
     record {
@@ -62,7 +62,7 @@ loop-index-preserved c =
       same = kept ∙ was.same;
       listing = record { listed = step.0; boxes = size.0 ∙ was.listing.boxes; squares = size.1 ∙ was.listing.squares };
       at_place = step.1;
-      kept = subst (λ (v : ExpanderView). ArePushesKept board most new.entries k s v.pushes (c.loop-index.index + 1)) (sym kept) step.2;
+      kept = subst (λ (v : ExpanderView). ArePushesKept board cap new.entries k s v.pushes (c.loop-index.index + 1)) (sym kept) step.2;
     }
 
 pub list_if_some-requires-clause-fits : goal.list_if_some-requires-clause-fits
@@ -81,7 +81,7 @@ list_if_some-requires-clause-most c = λ i x at.
 pub returns-clause-listing : goal.returns-clause-listing
 returns-clause-listing c =
     let board = c.args.bounds.now.board in
-    let most = c.args.bounds.now.most in
+    let cap = c.args.bounds.now.cap in
     let s = c.args.from.now.state in
     let k = c.args.from.now.pushes in
     let was = c.loop-index.invariant in
@@ -91,7 +91,7 @@ returns-clause-listing c =
     let over : length ps ≤ c.loop-index.index = omega (arith, end, same, c.loop-index-test.false) in
     let pushes : ArePushes board s ps = subst (λ (b : Board). ArePushes b s ps) was.board was.found.pushes in
     record {
-      listed = expanded_on board most c.args.place c.loop-index.listed.entries k s ps c.loop-index.index pushes over was.listing.listed was.at_place was.kept;
+      listed = expanded_on board cap c.args.place c.loop-index.listed.entries k s ps c.loop-index.index pushes over was.listing.listed was.at_place was.kept;
       boxes = was.listing.boxes;
       squares = was.listing.squares;
     }

@@ -8,7 +8,7 @@ invariant-loop-index l = record {
   board : l.workspace.expander.problem.board ≡ l.bounds.board;
   found : HasPushesOf l.workspace.expander l.from.state;
   same : l.workspace.expander ≡ l.initial.workspace.expander;
-  listing : IsStateList l.bounds.board l.bounds.most l.place l.listed;
+  listing : IsStateList l.bounds.board l.bounds.cap l.place l.listed;
   at_place : IsEntryAt l.listed.entries l.place l.from.state l.from.pushes;
-  kept : ArePushesKept l.bounds.board l.bounds.most l.listed.entries l.from.pushes l.from.state l.workspace.expander.pushes l.index;
+  kept : ArePushesKept l.bounds.board l.bounds.cap l.listed.entries l.from.pushes l.from.state l.workspace.expander.pushes l.index;
 }

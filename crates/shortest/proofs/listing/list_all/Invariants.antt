@@ -5,7 +5,7 @@ use Rattle.shortest.proofs.listing.list_all.Given as goal
 abbrev pub invariant-loop-place : goal.invariant-loop-place
 invariant-loop-place l = record {
   same : l.bounds ≡ l.fn.bounds;
-  listing : IsStateList l.fn.bounds.board l.fn.bounds.most l.place l.listed;
+  listing : IsStateList l.fn.bounds.board l.fn.bounds.cap l.place l.listed;
   board : l.workspace.expander.problem.board ≡ l.fn.bounds.board;
 }
 
