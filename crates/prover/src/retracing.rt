@@ -27,7 +27,9 @@ pub(crate) fn solution_at(
 {
     let leading = pushes_to(alloc, frontier, place)?;
     let mut scratch = Scratch::new(alloc, level)?;
-    let moves = play_pushes(alloc, level, leading.as_slice(), &mut scratch)?;
+    let played = play_pushes(alloc, level, leading.as_slice(), &mut scratch);
+    drop(scratch);
+    let moves = played?;
     let pushes = frontier.pushes(place);
     Ok(Outcome::Least { moves, pushes })
 }

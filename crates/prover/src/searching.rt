@@ -1,6 +1,6 @@
 //! The search: it expands the open position with the least total, until one is solved or none is open.
 ghost use Rattle.std.specs.Prelude.{◌≡◌, ◌↔◌, ◌≤◌, ℕ, List, Option, IfOk, IfErr, IsTrue};
-ghost use Rattle.std.specs.Prelude.{OnOk, length};
+ghost use Rattle.std.specs.Prelude.{[], OnOk};
 ghost use Rattle.grid.specs.Board.{Board, IsSolved, start};
 ghost use Rattle.grid.specs.Lawful.{box_count};
 ghost use Rattle.grid.specs.States.{FitsLevel};
@@ -9,8 +9,9 @@ ghost use Rattle.store.specs.Visited.{Node};
 ghost use Rattle.successors.specs.Capping.{capped};
 ghost use Rattle.prices.specs.Searching.{IsFault};
 ghost use Rattle.prover.specs.Outcomes.{IsOutcome};
+ghost use Rattle.prover.specs.inside.Rounds.{IsDesk};
 ghost use Rattle.prover.specs.inside.SearchEnds.{IsFloor, Tells, none_by};
-ghost use Rattle.prover.specs.inside.Working.{IsSearchOnBoard};
+ghost use Rattle.prover.specs.inside.Working.{HasSize, IsSearchOnBoard};
 
 use crate::expansion::expand;
 use crate::frontier::Frontier;
@@ -119,9 +120,44 @@ fn search_from<R: Threads + Sync, P: Progress>(
 {
     level.tell_start();
     let normal = normal_of(alloc, level, first)?;
-    let mut frontier = begun(alloc, level, &normal, search.cap)?;
-    let end = run_on(rt, alloc, level, search, progress, reach, &mut frontier)?;
-    outcome_of(alloc, level, &frontier, search, *reach, end)
+    let mut frontier = Frontier::of(alloc, level);
+    let outcome = search_in(
+        rt,
+        alloc,
+        level,
+        &normal,
+        search,
+        progress,
+        reach,
+        &mut frontier,
+    );
+    drop(frontier);
+    outcome
+}
+
+// Searches from the start, given its normal form and an empty frontier.
+fn search_in<R: Threads + Sync, P: Progress>(
+    rt: &R,
+    alloc: Global,
+    level: &Level,
+    normal: &Position,
+    search: Settings,
+    progress: &mut P,
+    reach: &mut u32,
+    frontier: &mut Frontier,
+) -> Result<Outcome, AllocError>
+    requires norm { IsNorm level.now (start level.now) normal.now }
+    requires fits { FitsLevel level.now normal.now }
+    requires empty { frontier.old.entries ≡ [] }
+    requires size { HasSize level.now frontier.old }
+    requires few { box_count level.now ≤ MAX_BOXES }
+    requires floor { IsFloor level.now search.cap reach.old }
+    ensures outcome { IfOk result (λ outcome. IsOutcome level.now search.cap search.limit outcome) }
+    ensures floor { IsFloor level.now search.cap reach.new }
+{
+    begin(level, normal, search.cap, frontier)?;
+    let end = run_on(rt, alloc, level, search, progress, reach, frontier)?;
+    outcome_of(alloc, level, frontier, search, *reach, end)
 }
 
 // The normal form of a position.
@@ -133,21 +169,21 @@ fn normal_of(alloc: Global, level: &Level, position: &Position) -> Result<Positi
     Ok(area::normal(level, position, &mut scratch))
 }
 
-// A frontier with the start only.
-fn begun(
-    alloc: Global,
+// Opens the start in an empty frontier.
+fn begin(
     level: &Level,
     normal: &Position,
     cap: Option<u32>,
-) -> Result<Frontier, AllocError>
+    frontier: &mut Frontier,
+) -> Result<(), AllocError>
     requires norm { IsNorm level.now (start level.now) normal.now }
     requires fits { FitsLevel level.now normal.now }
-    requires few { box_count level.now ≤ MAX_BOXES }
-    ensures { IfOk result (λ frontier. IsSearchOnBoard level.now cap frontier) }
+    requires empty { frontier.old.entries ≡ [] }
+    requires size { HasSize level.now frontier.old }
+    ensures { OnOk result (IsSearchOnBoard level.now cap frontier.new) }
 {
-    let mut frontier = Frontier::of(alloc, level);
     frontier.open_at(normal, 0, 0, None)?;
-    Ok(frontier)
+    Ok(())
 }
 
 // Expands open positions until that decides the level, or the search has found more positions than the limit.
@@ -286,7 +322,8 @@ fn is_decided(end: SearchEnd) -> bool
     }
 }
 
-// Expands open positions in rounds. `reach` is the greatest of the least totals that came up.
+// Expands open positions until that decides the problem, or more than `limit` are found. `reach` is the greatest of
+// the least totals that came up.
 fn run<R: Threads + Sync, P: Progress>(
     rt: &R,
     alloc: Global,
@@ -304,8 +341,34 @@ fn run<R: Threads + Sync, P: Progress>(
     ensures floor { IsFloor pruner.now.board pruner.now.cap reach.new }
 {
     let mut desk = Desk::new(alloc, pruner)?;
+    let end = run_rounds(
+        rt, alloc, pruner, limit, workers, progress, reach, frontier, &mut desk,
+    );
+    drop(desk);
+    end
+}
+
+// Expands open positions in rounds, in the memory of a desk.
+fn run_rounds<'a, R: Threads + Sync, P: Progress>(
+    rt: &R,
+    alloc: Global,
+    pruner: &Pruner<'a>,
+    limit: u32,
+    workers: u8,
+    progress: &mut P,
+    reach: &mut u32,
+    frontier: &mut Frontier,
+    desk: &mut Desk<'a>,
+) -> Result<SearchEnd, AllocError>
+    requires searched { IsSearchOnBoard pruner.now.board pruner.now.cap frontier.old }
+    requires floor { IsFloor pruner.now.board pruner.now.cap reach.old }
+    requires desk { IsDesk pruner.now frontier.old.entries desk.old }
+    ensures searched { OnOk result (IsSearchOnBoard pruner.now.board pruner.now.cap frontier.new) }
+    ensures tells { IfOk result (λ end. Tells pruner.now.board pruner.now.cap limit frontier.new.entries end) }
+    ensures floor { IsFloor pruner.now.board pruner.now.cap reach.new }
+{
     pruner.level().tell();
-    while let Some((place, least)) = frontier.least_open()? {
+    'rounds: while let Some((place, least)) = frontier.least_open()? {
         *reach = least.max(*reach);
         progress.note(pruner.level(), *reach, frontier.len());
         let solved = is_solved(pruner.level(), &frontier.position(place));
@@ -318,9 +381,7 @@ fn run<R: Threads + Sync, P: Progress>(
         }
         let first = frontier.expanded(place, *reach);
         expand(pruner, frontier, &first, &mut desk.workspace)?;
-        expand_more(
-            rt, alloc, pruner, frontier, *reach, limit, workers, &mut desk,
-        )?;
+        expand_more(rt, alloc, pruner, frontier, *reach, limit, workers, desk)?;
     }
     Ok(SearchEnd::Closed)
 }

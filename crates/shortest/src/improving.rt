@@ -1,5 +1,7 @@
 //! Replaces a solution by better ones that a search near it finds.
-ghost use Rattle.std.specs.Prelude.{◌≡◌, ◌<◌, ◌≤◌, ◌⊎◌, IsTrue};
+ghost use Rattle.std.specs.Prelude.{◌≡◌, ◌<◌, ◌≤◌, ◌⊎◌, IsTrue, OnOk, length};
+ghost use Rattle.grid.specs.Lawful.{box_count};
+ghost use Rattle.grid.specs.States.{FitsLevel, IsScene};
 ghost use Rattle.shortest.specs.Improving.{IsNoWorse};
 ghost use Rattle.shortest.specs.inside.Nearby.{IsFinderFor};
 
@@ -8,10 +10,11 @@ use crate::listing::problem_of;
 use crate::near::{Find, Form, Memory, search_near};
 use crate::trail::Trail;
 use area::{Scratch, walk};
-use grid::{Letter, Level, Moves, Position, Push, State};
+use grid::{Letter, Level, MAX_BOXES, Moves, Position, Push, State};
 use lurd::laws::one_verdict;
 use lurd::{Verdict, replay};
 use std::alloc::{AllocError, Global};
+use successors::Problem;
 
 /// The most states of a layer that the first search expands. A search without success is repeated with `WIDER` times
 /// as many.
@@ -54,24 +57,57 @@ pub fn improve(
     };
     level.tell_start();
     let problem = problem_of(alloc, level)?;
+    let states = states / (1 + level.squares() / SQUARES_A_STATE);
+    let end = improve_over(alloc, level, &problem, start, moves, aim, states);
+    drop(problem);
+    end
+}
+
+// Improves a solution from the start of the problem's level.
+fn improve_over(
+    alloc: Global,
+    level: &Level,
+    problem: &Problem,
+    start: Position,
+    moves: &mut Moves,
+    aim: Aim,
+    states: usize,
+) -> Result<(), AllocError>
+    requires problem { problem.now.board ≡ level.now }
+    requires fits { FitsLevel level.now start }
+    requires few { box_count level.now ≤ MAX_BOXES }
+    ensures { IsNoWorse level.now moves.old moves.new }
+{
+    let bounds = Bounds::of(alloc, level, 0)?;
+    let memory = Memory::new(alloc, problem)?;
     let mut finder = Finder {
         start,
-        bounds: Bounds::of(alloc, level, 0)?,
-        memory: Memory::new(alloc, &problem)?,
+        bounds,
+        memory,
     };
-    let states = states / (1 + level.squares() / SQUARES_A_STATE);
+    let end = improve_with(alloc, level, moves, aim, states, &mut finder);
+    drop(finder);
+    end
+}
+
+// Improves a solution for an aim. Where pushes are counted, a third of the states is left for fewer moves.
+#[tactic(auto, using(crate::proofs::Better::no_worse_same, crate::proofs::Better::no_worse_then))]
+fn improve_with(
+    alloc: Global,
+    level: &Level,
+    moves: &mut Moves,
+    aim: Aim,
+    states: usize,
+    finder: &mut Finder<'_>,
+) -> Result<(), AllocError>
+    requires { IsFinderFor level.now finder.old }
+    ensures { IsNoWorse level.now moves.old moves.new }
+{
     if aim == Aim::FewerMoves {
-        return improve_by(alloc, level, moves, aim, states, &mut finder);
+        return improve_by(alloc, level, moves, aim, states, finder);
     }
-    improve_by(alloc, level, moves, aim, states / 3 * 2, &mut finder)?;
-    improve_by(
-        alloc,
-        level,
-        moves,
-        Aim::FewerMoves,
-        states / 3,
-        &mut finder,
-    )
+    improve_by(alloc, level, moves, aim, states / 3 * 2, finder)?;
+    improve_by(alloc, level, moves, Aim::FewerMoves, states / 3, finder)
 }
 
 /// What searches near solutions of a level share: its start, its bounds and memory.
@@ -204,24 +240,54 @@ fn take_if_some(
 // The moves of the play that makes these pushes, each after a shortest walk, if they are possible.
 fn moves_by(alloc: Global, level: &Level, pushes: &[Push]) -> Result<Moves, AllocError> {
     let mut scratch = Scratch::new(alloc, level)?;
+    let moves = moves_in(alloc, level, pushes, &mut scratch);
+    drop(scratch);
+    moves
+}
+
+// The same, with memory for walks.
+fn moves_in(
+    alloc: Global,
+    level: &Level,
+    pushes: &[Push],
+    scratch: &mut Scratch,
+) -> Result<Moves, AllocError>
+    requires { scratch.old.size ≡ length level.now.cells }
+{
     let mut state = State::start(alloc, level)?;
     let mut moves = Moves::new(alloc);
     for push in pushes {
         if push.square.0 as usize >= level.squares() {
             break;
         }
-        let begin = moves.len();
-        let behind = level.next(push.square, push.dir.opposite());
-        let _ = walk(level, &state, behind, &mut scratch, &mut moves)?;
-        moves.push(Letter {
-            dir: push.dir,
-            push: true,
-        })?;
-        for index in begin..moves.len() {
-            state.step(level, moves.as_slice()[index].dir);
-        }
+        append_push(level, *push, &mut state, scratch, &mut moves)?;
     }
     Ok(moves)
+}
+
+// Appends the moves of a push, and of a shortest walk to it.
+fn append_push(
+    level: &Level,
+    push: Push,
+    state: &mut State,
+    scratch: &mut Scratch,
+    moves: &mut Moves,
+) -> Result<(), AllocError>
+    requires inside { push.square < length level.now.cells }
+    requires scene { IsScene level.now state.old }
+    requires room { scratch.old.size ≡ length level.now.cells }
+    ensures scene { OnOk result (IsScene level.now state.new) }
+    ensures room { OnOk result (scratch.new.size ≡ length level.now.cells) }
+{
+    let Push { square, dir } = push;
+    let begin = moves.len();
+    let behind = level.next(square, dir.opposite());
+    let _ = walk(level, state, behind, scratch, moves)?;
+    moves.push(Letter { dir, push: true })?;
+    for index in begin..moves.len() {
+        state.step(level, moves.as_slice()[index].dir);
+    }
+    Ok(())
 }
 
 // Takes a candidate in place of the moves, if both solve the level and the candidate has fewer pushes, or as many

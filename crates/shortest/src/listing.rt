@@ -1,5 +1,5 @@
 //! Lists the states that plays with the fewest pushes may reach, by their numbers of pushes.
-ghost use Rattle.std.specs.Prelude.{◌≡◌, ℕ, suc, ◌<◌, ◌≤◌, IfOk, IfSome, None, OnOk, Some, length, slice_get};
+ghost use Rattle.std.specs.Prelude.{◌≡◌, ℕ, suc, ◌<◌, ◌≤◌, IfOk, IfSome, None, OnOk, Some, [], length, slice_get};
 ghost use Rattle.grid.specs.Board.{start};
 ghost use Rattle.grid.specs.Lawful.{box_count};
 ghost use Rattle.grid.specs.States.{FitsLevel};
@@ -8,6 +8,7 @@ ghost use Rattle.store.specs.FoundView.{FitsGrid};
 ghost use Rattle.store.specs.Visited.{Node};
 ghost use Rattle.successors.specs.Capping.{capped};
 ghost use Rattle.successors.specs.Expanding.{HasPushesOf};
+ghost use Rattle.shortest.specs.inside.Nearby.{IsListFor};
 ghost use Rattle.shortest.specs.inside.Listing.{EndsListing, IsAfter, IsEntryAt, IsStateList, ListsIf};
 
 use crate::bounds::Bounds;
@@ -40,16 +41,16 @@ impl<'a> Workspace<'a> {
     }
 }
 
-/// A list of the start alone. Fails only if out of memory.
-pub(crate) fn begun(alloc: Global, level: &Level, first: &Position) -> Result<Visited, AllocError>
+/// Lists the start in an empty list. Fails only if out of memory.
+pub(crate) fn begin(level: &Level, first: &Position, listed: &mut Visited) -> Result<(), AllocError>
     requires first { first.now ≡ start level.now }
     requires fits { FitsLevel level.now (start level.now) }
-    requires few { box_count level.now ≤ MAX_BOXES }
-    ensures { IfOk result (λ listed. (most : ℕ) → IsStateList level.now most 0 listed) }
+    requires empty { listed.old.entries ≡ [] }
+    requires size { IsListFor level.now listed.old }
+    ensures { OnOk result ((most : ℕ) → IsStateList level.now most 0 listed.new) }
 {
-    let mut listed = Visited::of(alloc, level.boxes(), level.squares());
     let _ = listed.enter(first, label_of(0))?;
-    Ok(listed)
+    Ok(())
 }
 
 /// Lists the states that plays with at most `most` pushes may reach. Returns whether these are at most `limit`. If they
@@ -66,8 +67,9 @@ pub(crate) fn list_states(
     ensures { IfOk result (λ whole. EndsListing level.now most limit listed.new whole) }
 {
     let problem = problem_of(alloc, level)?;
-    let mut bounds = Bounds::of(alloc, level, most)?;
-    list_all(alloc, &problem, &mut bounds, limit, listed)
+    let whole = list_over(alloc, &problem, most, limit, listed);
+    drop(problem);
+    whole
 }
 
 /// The problem of a level, with no cap: the bounds prune in its place. Fails only if out of memory.
@@ -78,26 +80,45 @@ pub(crate) fn problem_of(alloc: Global, level: &Level) -> Result<Problem, AllocE
     Problem::of(alloc, &shared, None)
 }
 
-// Expands the states in order. Makes tables of larger regions the more states are listed.
-fn list_all(
+// Lists the states of a problem.
+fn list_over(
     alloc: Global,
     problem: &Problem,
-    bounds: &mut Bounds<'_>,
+    most: u32,
     limit: u32,
     listed: &mut Visited,
 ) -> Result<bool, AllocError>
-    requires board { problem.now.board ≡ bounds.old.board }
+    requires listing { IsStateList problem.now.board most 0 listed.old }
+    requires few { box_count problem.now.board ≤ MAX_BOXES }
+    ensures { IfOk result (λ whole. EndsListing problem.now.board most limit listed.new whole) }
+{
+    let mut bounds = Bounds::of(alloc, problem.level(), most)?;
+    let mut workspace = Workspace::new(alloc, problem)?;
+    let whole = list_all(alloc, &mut bounds, limit, listed, &mut workspace);
+    drop(workspace);
+    drop(bounds);
+    whole
+}
+
+// Expands the states in order. Makes tables of larger regions the more states are listed.
+fn list_all(
+    alloc: Global,
+    bounds: &mut Bounds<'_>,
+    limit: u32,
+    listed: &mut Visited,
+    workspace: &mut Workspace<'_>,
+) -> Result<bool, AllocError>
+    requires board { workspace.old.expander.problem.board ≡ bounds.old.board }
     requires listing { IsStateList bounds.old.board bounds.old.cap 0 listed.old }
     ensures { IfOk result (λ whole. EndsListing bounds.old.board bounds.old.cap limit listed.new whole) }
 {
-    let mut workspace = Workspace::new(alloc, problem)?;
     let mut place = 0;
     while place < listed.len() {
         if listed.len() > limit as usize {
             return Ok(false);
         }
         bounds.make_tables_at(alloc, listed.len())?;
-        expand(bounds, listed, place, &mut workspace)?;
+        expand(bounds, listed, place, workspace)?;
         place += 1;
     }
     Ok(true)

@@ -74,15 +74,23 @@ impl<'a> Memory<'a> {
     }
 }
 
-/// A layer: what it may list, the positions of the solution round it, the pushes before it and those that are left, and
-/// the place of its first state.
+/// A layer: what it may list, the positions of the solution round it, the pushes that are left, and the place of its
+/// first state.
 #[derive(Drop)]
 struct Layer<'a> {
     form: Form,
     vicinity: &'a Vicinity,
-    pushes: u32,
     left: u32,
     begin: usize,
+}
+
+/// What a search has to know of the layer that it expands next: the positions of the solution round it, and the ranks
+/// and places of its states; and whether the width kept it from expanding some states.
+#[derive(Drop)]
+pub(crate) struct Front {
+    vicinity: Vicinity,
+    ranked: Vec<(u32, usize)>,
+    is_cut: bool,
 }
 
 /// Searches for a solution with at most as many pushes as the bounds say. Fails only if out of memory.
@@ -100,40 +108,99 @@ pub(crate) fn search_near(
     ensures ready { IsMemoryFor bounds.now.board memory.new }
 {
     let level = bounds.level();
-    let most = bounds.cap();
     let mut listed = Visited::of(alloc, level.boxes(), level.squares());
+    let find = find_in(alloc, bounds, start, trail, form, &mut listed, memory);
+    drop(listed);
+    find
+}
+
+// Searches with an empty list of states.
+fn find_in(
+    alloc: Global,
+    bounds: &Bounds<'_>,
+    start: &Position,
+    trail: &Trail,
+    form: Form,
+    listed: &mut Visited,
+    memory: &mut Memory<'_>,
+) -> Result<Find, AllocError>
+    requires fits { FitsLevel bounds.now.board start.now }
+    requires ready { IsMemoryFor bounds.now.board memory.old }
+    requires list { IsListFor bounds.now.board listed.old }
+    ensures ready { IsMemoryFor bounds.now.board memory.new }
+{
     let _ = listed.enter(start, label_of(0, 0, None))?;
-    let mut vicinity = Vicinity::of(alloc, level, trail)?;
-    let mut ranked = vec![in alloc; (0, 0); 1]?;
-    let mut found = None;
-    let mut is_cut = false;
-    for pushes in 1..=most {
-        vicinity.go_to(trail, pushes as usize);
-        let begin = listed.len();
-        let layer = Layer {
-            form,
-            vicinity: &vicinity,
-            pushes,
-            left: most - pushes,
-            begin,
-        };
-        expand_all(bounds, &layer, ranked.as_slice(), &mut listed, memory)?;
-        if let Some(place) = solved_since(level, &listed, begin) {
-            found = Some(pushes_to(alloc, &listed, place)?);
-            break;
-        }
-        if listed.len() == begin || listed.len() >= form.states {
-            break;
-        }
-        ranked = ranks_since(alloc, trail, &layer, &listed)?;
-        is_cut |= ranked.len() > form.width;
-        ranked.truncate(form.width);
-    }
+    let mut front = Front {
+        vicinity: Vicinity::of(alloc, bounds.level(), trail)?,
+        ranked: vec![in alloc; (0, 0); 1]?,
+        is_cut: false,
+    };
+    let end = list_layers(alloc, bounds, trail, form, &mut front, listed, memory);
+    let is_cut = front.is_cut;
+    drop(front);
+    let pushes = match end? {
+        Some(place) => Some(pushes_to(alloc, listed, place)?),
+        None => None,
+    };
     Ok(Find {
-        pushes: found,
+        pushes,
         listed: listed.len(),
         is_cut,
     })
+}
+
+// Lists layer by layer, until a state is solved or the form allows no more. Returns the place of the solved state.
+fn list_layers(
+    alloc: Global,
+    bounds: &Bounds<'_>,
+    trail: &Trail,
+    form: Form,
+    front: &mut Front,
+    listed: &mut Visited,
+    memory: &mut Memory<'_>,
+) -> Result<Option<usize>, AllocError>
+    requires ready { IsMemoryFor bounds.now.board memory.old }
+    requires list { IsListFor bounds.now.board listed.old }
+    ensures ready { IsMemoryFor bounds.now.board memory.new }
+{
+    for pushes in 1..=bounds.cap() {
+        let begin = listed.len();
+        list_layer(bounds, trail, form, pushes, front, listed, memory)?;
+        let solved = solved_since(bounds.level(), listed, begin);
+        if solved.is_some() || listed.len() == begin || listed.len() >= form.states {
+            return Ok(solved);
+        }
+        front.ranked = ranks_since(alloc, trail, pushes, begin, listed)?;
+        front.is_cut |= front.ranked.len() > form.width;
+        front.ranked.truncate(form.width);
+    }
+    Ok(None)
+}
+
+// Lists the layer of the states after this many pushes.
+fn list_layer(
+    bounds: &Bounds<'_>,
+    trail: &Trail,
+    form: Form,
+    pushes: u32,
+    front: &mut Front,
+    listed: &mut Visited,
+    memory: &mut Memory<'_>,
+) -> Result<(), AllocError>
+    requires pushes { pushes ≤ bounds.now.cap }
+    requires ready { IsMemoryFor bounds.now.board memory.old }
+    requires list { IsListFor bounds.now.board listed.old }
+    ensures ready { IsMemoryFor bounds.now.board memory.new }
+    ensures list { IsListFor bounds.now.board listed.new }
+{
+    front.vicinity.go_to(trail, pushes as usize);
+    let layer = Layer {
+        form,
+        vicinity: &front.vicinity,
+        left: bounds.cap() - pushes,
+        begin: listed.len(),
+    };
+    expand_all(bounds, &layer, front.ranked.as_slice(), listed, memory)
 }
 
 // Lists the states after those at some places, until there are as many as the form allows.
@@ -361,18 +428,20 @@ fn solved_since(level: &Level, listed: &Visited, begin: usize) -> Option<usize> 
     best
 }
 
-// The ranks and places of the states of a layer, by rising rank. The state of the solution comes first.
+// The ranks and places of the states of the layer after this many pushes, from a place on, by rising rank. The state of
+// the solution comes first.
 fn ranks_since(
     alloc: Global,
     trail: &Trail,
-    layer: &Layer<'_>,
+    pushes: u32,
+    begin: usize,
     listed: &Visited,
 ) -> Result<Vec<(u32, usize)>, AllocError> {
     let mut ranked = Vec::new(alloc);
-    for place in layer.begin..listed.len() {
+    for place in begin..listed.len() {
         let label = listed.label(place);
         let rank = label.pushes.saturating_add(label.least.unwrap_or(0));
-        let is_own = trail.passes(layer.pushes as usize, &listed.position(place));
+        let is_own = trail.passes(pushes as usize, &listed.position(place));
         ranked.push((if is_own { 0 } else { rank }, place))?;
     }
     ranked.sort_unstable();

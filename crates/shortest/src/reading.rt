@@ -10,7 +10,6 @@ ghost use Rattle.shortest.specs.inside.Resting.{AreRests, Finishes};
 use crate::rests::rests_of;
 use crate::states::States;
 use crate::ways::{Tools, best_way};
-use area::Scratch;
 use grid::{Moves, Push};
 use std::alloc::{AllocError, Global};
 use successors::play_pushes;
@@ -22,11 +21,23 @@ pub(crate) fn least_moves(alloc: Global, states: &States<'_>) -> Result<Moves, A
         NoneIsBetter states.now.board states.now.most (length moves)) }
 {
     let mut tools = Tools::new(alloc, states.level())?;
-    let rests = rests_of(alloc, states, &mut tools)?;
-    let pushes = least_pushes(alloc, states, rests.as_slice(), &mut tools)?;
-    let mut scratch = Scratch::new(alloc, states.level())?;
+    let moves = moves_with(alloc, states, &mut tools);
+    drop(tools);
+    moves
+}
+
+// The moves of that solution, found with these tools.
+fn moves_with(alloc: Global, states: &States<'_>, tools: &mut Tools) -> Result<Moves, AllocError>
+    requires some { SomeHas states.now.board states.now.most }
+    requires size { tools.old.scratch.size ≡ length states.now.board.cells }
+    requires room { length tools.old.walks ≡ length states.now.board.cells }
+    ensures { IfOk result (λ moves. IsVerdict states.now.board moves (Solved states.now.most (length moves)) ×
+        NoneIsBetter states.now.board states.now.most (length moves)) }
+{
+    let rests = rests_of(alloc, states, tools)?;
+    let pushes = least_pushes(alloc, states, rests.as_slice(), tools)?;
     states.tell();
-    let moves = play_pushes(alloc, states.level(), pushes.as_slice(), &mut scratch)?;
+    let moves = play_pushes(alloc, states.level(), pushes.as_slice(), &mut tools.scratch)?;
     Ok(moves)
 }
 
@@ -41,9 +52,10 @@ fn least_pushes(
     requires rests { AreRests states.now.board states.now.most 0 states.now.entries rests.now }
     requires size { tools.old.scratch.size ≡ length states.now.board.cells }
     requires room { length tools.old.walks ≡ length states.now.board.cells }
-    ensures { IfOk result (λ pushes. (total : ℕ) × (slice_get rests.now 0 ≡ Some (Some total)) ×
+    ensures pushes { IfOk result (λ pushes. (total : ℕ) × (slice_get rests.now 0 ≡ Some (Some total)) ×
         (length pushes.items ≡ states.now.most) ×
         Finishes states.now.board (start states.now.board) pushes.items total) }
+    ensures size { tools.new.scratch.size ≡ length states.now.board.cells }
 {
     states.tell();
     let mut pushes = Vec::new(alloc);

@@ -1,6 +1,7 @@
-ghost use Rattle.std.specs.Prelude.{◌≡◌, ◌≤◌, IfErr, IfOk, OnOk, length};
+ghost use Rattle.std.specs.Prelude.{◌≡◌, ◌≤◌, IfErr, IfOk, OnOk, [], length};
 ghost use Rattle.grid.specs.Board.{start};
 ghost use Rattle.grid.specs.Lawful.{box_count};
+ghost use Rattle.grid.specs.States.{FitsLevel};
 ghost use Rattle.lurd.specs.Verdict.{IsVerdict};
 ghost use Rattle.lurd.specs.declared.verdict.Verdict.TheVariants.{Solved};
 ghost use Rattle.prices.specs.Fewest.{NoneHasFewer};
@@ -8,8 +9,9 @@ ghost use Rattle.prices.specs.Searching.{IsFault, SomeHas};
 ghost use Rattle.shortest.specs.Outcomes.{IsMovesOutcome};
 ghost use Rattle.shortest.specs.Shortest.{NoneIsBetter};
 ghost use Rattle.shortest.specs.inside.Listing.{IsStateList};
+ghost use Rattle.shortest.specs.inside.Nearby.{IsListFor};
 
-use crate::listing::{begun, list_states};
+use crate::listing::{begin, list_states};
 use crate::outcome::MovesOutcome;
 use crate::reading::least_moves;
 use crate::states::States;
@@ -58,26 +60,31 @@ fn search_from(
     ensures { IfOk result (λ outcome. IsMovesOutcome level.now pushes limit outcome) }
 {
     level.tell_start();
-    let mut listed = begun(alloc, level, first)?;
-    let outcome = search_in(alloc, level, pushes, limit, &mut listed);
+    let mut listed = Visited::of(alloc, level.boxes(), level.squares());
+    let outcome = search_in(alloc, level, first, pushes, limit, &mut listed);
     drop(listed);
     outcome
 }
 
-// Searches with a list of the start alone.
+// Searches from the start with an empty list of states.
 fn search_in(
     alloc: Global,
     level: &Level,
+    first: &Position,
     pushes: u32,
     limit: u32,
     listed: &mut Visited,
 ) -> Result<MovesOutcome, AllocError>
-    requires listing { IsStateList level.now pushes 0 listed.old }
+    requires first { first.now ≡ start level.now }
+    requires fits { FitsLevel level.now (start level.now) }
+    requires empty { listed.old.entries ≡ [] }
+    requires size { IsListFor level.now listed.old }
     requires few { box_count level.now ≤ MAX_BOXES }
     requires some { SomeHas level.now pushes }
     requires fewest { NoneHasFewer level.now pushes }
     ensures { IfOk result (λ outcome. IsMovesOutcome level.now pushes limit outcome) }
 {
+    begin(level, first, listed)?;
     let whole = list_states(alloc, level, pushes, limit, listed)?;
     listed.tell();
     if whole {

@@ -28,7 +28,7 @@ pub(crate) struct Way {
 /// Memory to find the ways on from states.
 #[derive(Drop)]
 pub(crate) struct Tools {
-    scratch: Scratch,
+    pub(crate) scratch: Scratch,
     walks: Walks,
 }
 

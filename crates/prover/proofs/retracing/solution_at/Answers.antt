@@ -5,8 +5,8 @@ use Rattle.prices.proofs.lemmas.Lists.{in_range}
 use Rattle.prover.proofs.ReadingBack.{solution_by}
 use Rattle.prover.proofs.retracing.solution_at.Goals as goal
 
-pub play_pushes-requires-clause-played : goal.play_pushes-requires-clause-played
-play_pushes-requires-clause-played c =
+pub play_pushes-played-requires-clause-played : goal.play_pushes-played-requires-clause-played
+play_pushes-played-requires-clause-played c =
     let board = c.args.level.now in
     let (x, at) = in_range c.args.frontier.now.entries c.args.place c.requires.place in
     let (leading, few) = c.in_ok-leading.ensures board x c.requires.traced at in

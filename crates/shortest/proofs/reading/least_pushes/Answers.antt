@@ -69,8 +69,8 @@ loop-from-preserved c =
       room = search rules;
     }
 
-pub returns : goal.returns
-returns c =
+pub returns-clause-pushes : goal.returns-clause-pushes
+returns-clause-pushes c =
     let v = c.args.states.now in
     let read = c.loop-from.pushes.items in
     let (total, first, reading) = c.loop-from.invariant.reading in

@@ -1,5 +1,5 @@
 use Rattle.shortest.specs.inside.Nearby.{IsListFor, IsMemoryFor}
-use Rattle.shortest.proofs.near.search_near.Given as goal
+use Rattle.shortest.proofs.near.list_layers.Given as goal
 
 abbrev pub invariant-loop-pushes : goal.invariant-loop-pushes
 invariant-loop-pushes l = record {
