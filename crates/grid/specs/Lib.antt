@@ -4,6 +4,7 @@ pub mod Marks
 pub mod Board
 pub mod States
 pub mod Lawful
+pub mod Refusals
 pub mod Plays
 pub mod Masks
 pub mod RoomMask

@@ -1,7 +1,8 @@
-ghost use Rattle.std.specs.Prelude.{◌≡◌, ◌%◌, ◌≤◌, ◌⊎◌, ◌↔◌, IsTrue, IfOk, IfErr, length};
+ghost use Rattle.std.specs.Prelude.{◌≡◌, ◌%◌, ◌≤◌, ◌↔◌, IsTrue, IfOk, IfErr, length};
 ghost use Rattle.grid.specs.Board.{is_wall, is_goal, start_player};
 ghost use Rattle.grid.specs.States.{has_box};
-ghost use Rattle.grid.specs.Lawful.{row_count, box_count, HasFault, InRoom, IsLevel};
+ghost use Rattle.grid.specs.Lawful.{row_count, box_count, InRoom, IsLevel};
+ghost use Rattle.grid.specs.Refusals.{IsRefusal};
 
 use crate::cell::Cell;
 use crate::fault::LevelFault;
@@ -43,8 +44,7 @@ impl Board {
         requires whole { length cells.items % cols ≡ 0 }
         ensures ok { IfOk result (λ board. board ≡ record { cols = cols; cells = cells.items }) }
         ensures lawful { IfOk result (λ board. IsLevel board) }
-        ensures err { IfErr result (λ f. (f ≡ LevelFault.OutOfMemory) ⊎
-            HasFault (record { cols = cols; cells = cells.items }) f) }
+        ensures err { IfErr result (IsRefusal (record { cols = cols; cells = cells.items })) }
     {
         if let Some(fault) = cell_fault(cols, cells.as_slice()) {
             return Err(fault);

@@ -1,7 +1,8 @@
-ghost use Rattle.std.specs.Prelude.{◌≡◌, ◌%◌, ◌<◌, ◌≤◌, ◌⊎◌, ◌↔◌, IsTrue, IfOk, IfErr, length};
+ghost use Rattle.std.specs.Prelude.{◌≡◌, ◌%◌, ◌<◌, ◌≤◌, ◌↔◌, IsTrue, IfOk, IfErr, length};
 ghost use Rattle.grid.specs.Board.{Scene, IsSolved, is_wall, is_goal, next, start, start_player};
 ghost use Rattle.std.specs.List.{list_all};
-ghost use Rattle.grid.specs.Lawful.{row_count, box_count, HasFault, InRoom, IsLevel};
+ghost use Rattle.grid.specs.Lawful.{row_count, box_count, InRoom, IsLevel};
+ghost use Rattle.grid.specs.Refusals.{IsRefusal};
 ghost use Rattle.grid.specs.States.{FitsLevel, has_box};
 ghost use Rattle.grid.specs.inside.AroundView.{around_of};
 ghost use Rattle.grid.specs.RoomMask.{IsRoomMask};
@@ -47,8 +48,7 @@ impl Level {
         requires whole { length cells.items % cols ≡ 0 }
         ensures ok { IfOk result (λ level. level ≡ record { cols = cols; cells = cells.items }) }
         ensures lawful { IfOk result (λ level. IsLevel level) }
-        ensures err { IfErr result (λ f. (f ≡ LevelFault.OutOfMemory) ⊎
-            HasFault (record { cols = cols; cells = cells.items }) f) }
+        ensures err { IfErr result (IsRefusal (record { cols = cols; cells = cells.items })) }
     {
         let board = Board::from_cells(alloc, cols, cells)?;
         Ok(Level::of_board(alloc, board)?)
