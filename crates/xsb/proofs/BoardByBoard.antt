@@ -110,7 +110,7 @@ pub Takes-more : {bytes : List ℕ} {mid : Lines} {stretch : Stretch} {founds : 
     ((before_lines after_lines : List (List ℕ)) → IsGap first.before before_lines → IsGap last.before after_lines →
     entry.name.items ≡ name_of before_lines after_lines) →
     entry.first_line ≡ stretch.first_line → IsJudged (board_of board.rows) entry.board →
-    Takes bytes founds first last (Some (entry, stretch))
+    Takes bytes founds first (Some (entry, stretch, last))
 Takes-more {bytes} {mid} {stretch} {founds} first last entry is board gap named line judged =
     let found : Found = record { name = name_of is.texts gap.texts; first_line = first.lines.number; board = board_of board.rows } in
     let part : Part = record { board = board.lines; gap = gap.texts } in

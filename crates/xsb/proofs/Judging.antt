@@ -1,6 +1,6 @@
 -- The board of some rows, and how it is judged.
 use Rattle.std.proofs.Common.{◌≡◌, ℕ, ◌-◌, ◌*◌, ◌/◌, ◌%◌, ◌<◌, ◌≤◌, Bool, true, false, cond, nat_lt, List, [], ◌∷◌, length, replicate, flat_map, Some}
-use Rattle.std.proofs.Common.{sym, ap, ◌∙◌, arith, length-append, subst, ◌⊎◌, inl, ⊎_elim, ◌≢◌, MatchBool}
+use Rattle.std.proofs.Common.{sym, ap, ◌∙◌, arith, length-append, subst, inl, ⊎_elim, ◌≢◌, MatchBool}
 use Rattle.std.proofs.lemmas.Bool.{false≢true}
 use Rattle.std.specs.List.{AllZip}
 use Rattle.std.proofs.Math.Nat.{mul-div_cancel, mul-mod_left}
@@ -12,7 +12,8 @@ use Rattle.grid.specs.declared.fault.LevelFault.{LevelFault}
 use Rattle.grid.specs.declared.fault.LevelFault.TheVariants.{TooTall, TooWide, OutOfMemory}
 use Rattle.grid.specs.declared.limits.TheConstants.{MAX_ROWS, MAX_COLS}
 use Rattle.grid.specs.Board.{Board}
-use Rattle.grid.specs.Lawful.{HasFault, row_count}
+use Rattle.grid.specs.Lawful.{HasFault, cell_fault, row_count}
+use Rattle.grid.specs.Refusals.{IsRefusal}
 use Rattle.grid.specs.inside.Counting.{count_fault}
 use Rattle.xsb.specs.declared.boards.Stretch.{Stretch}
 use Rattle.xsb.specs.Boards.{board_of, cols_of, cut_row, padded}
@@ -48,27 +49,34 @@ HasRows-cols {stretch} {rows} has =
     let n = has.count in let some = has.some in
     some-cols has.lines has.rows_are.by_line rows (omega arith) has.rows_are.each has.rows_are.all
 
-pub too-tall : {stretch : Stretch} (rows : List (List Cell)) → HasRows stretch rows → MAX_ROWS < stretch.size.rows → HasFault (board_of rows) TooTall
+-- rows that are too many, or too long
+pub tall-fault : (rows : List (List Cell)) → 1 ≤ cols_of rows → MAX_ROWS < length rows → cell_fault (board_of rows) ≡ Some TooTall
 unfolding board_of
-too-tall {stretch} rows has tall =
-    let n = has.size.row_count in
-    let many = row_count-board_of rows (HasRows-cols has) in
+tall-fault rows some many =
+    let count = row_count-board_of rows some in
     let long : MAX_ROWS < row_count (board_of rows) = omega arith in
     let test : nat_lt MAX_ROWS (row_count (board_of rows)) ≡ true = grind (arith, nat_tests) in
-    inl (ap (λ t. cond t (Some TooTall) (cond (nat_lt MAX_COLS (cols_of rows)) (Some TooWide) (count_fault (board_of rows)))) test)
+    ap (λ t. cond t (Some TooTall) (cond (nat_lt MAX_COLS (cols_of rows)) (Some TooWide) (count_fault (board_of rows)))) test
+
+pub wide-fault : (rows : List (List Cell)) → 1 ≤ cols_of rows → length rows ≤ MAX_ROWS → MAX_COLS < cols_of rows →
+    cell_fault (board_of rows) ≡ Some TooWide
+unfolding board_of
+wide-fault rows some short broad =
+    let count = row_count-board_of rows some in
+    let few : row_count (board_of rows) ≤ MAX_ROWS = omega arith in
+    let test : nat_lt MAX_ROWS (row_count (board_of rows)) ≡ false = grind (arith, nat_tests) in
+    let other : nat_lt MAX_COLS (cols_of rows) ≡ true = grind (arith, nat_tests) in
+    ap (λ t. cond t (Some TooTall) (cond (nat_lt MAX_COLS (cols_of rows)) (Some TooWide) (count_fault (board_of rows)))) test
+    ∙ ap (λ t. cond t (Some TooWide) (count_fault (board_of rows))) other
+
+pub too-tall : {stretch : Stretch} (rows : List (List Cell)) → HasRows stretch rows → MAX_ROWS < stretch.size.rows → HasFault (board_of rows) TooTall
+too-tall {stretch} rows has tall = let n = has.size.row_count in inl (tall-fault rows (HasRows-cols has) (omega arith))
 
 pub too-wide : {stretch : Stretch} (rows : List (List Cell)) → HasRows stretch rows → stretch.size.rows ≤ MAX_ROWS → MAX_COLS < stretch.size.cols →
     HasFault (board_of rows) TooWide
-unfolding board_of
 too-wide {stretch} rows has short wide =
     let n = has.size.row_count in let m = has.size.col_count in
-    let many = row_count-board_of rows (HasRows-cols has) in
-    let few : row_count (board_of rows) ≤ MAX_ROWS = omega arith in
-    let test : nat_lt MAX_ROWS (row_count (board_of rows)) ≡ false = grind (arith, nat_tests) in
-    let broad : MAX_COLS < cols_of rows = omega arith in
-    let other : nat_lt MAX_COLS (cols_of rows) ≡ true = grind (arith, nat_tests) in
-    inl (ap (λ t. cond t (Some TooTall) (cond (nat_lt MAX_COLS (cols_of rows)) (Some TooWide) (count_fault (board_of rows)))) test
-    ∙ ap (λ t. cond t (Some TooWide) (count_fault (board_of rows))) other)
+    inl (wide-fault rows (HasRows-cols has) (omega arith) (omega arith))
 
 -- the columns that were counted are those of the rows, where there are not too many
 pub cols-exact : {stretch : Stretch} (rows : List (List Cell)) → HasRows stretch rows → stretch.size.cols ≤ MAX_COLS → cols_of rows ≡ stretch.size.cols
@@ -87,7 +95,7 @@ same-board {stretch} rows cells has few made =
     let cols = cols-exact rows has few in
     ap (λ c. record { cols = stretch.size.cols; cells = c }) made ∙ ap (λ n. record { cols = n; cells = flat_map (padded n) rows }) (sym cols)
 
-pub judged-fault : {board other : Board} (f : LevelFault) (memory : Bool) → other ≡ board → (f ≡ OutOfMemory) ⊎ HasFault other f →
+pub judged-fault : {board other : Board} (f : LevelFault) (memory : Bool) → other ≡ board → IsRefusal other f →
     MatchBool memory (f ≡ OutOfMemory) (f ≢ OutOfMemory) → memory ≡ false → HasFault board f
 judged-fault f true e fault is was = absurd (false≢true (sym was))
-judged-fault f false e fault is was = ⊎_elim (λ m. absurd (is m)) (λ h. subst (λ b. HasFault b f) e h) fault
+judged-fault f false e fault is was = ⊎_elim (λ h. subst (λ b. HasFault b f) e h) (λ m. absurd (is m.0)) fault

@@ -1,13 +1,13 @@
 -- The places of the rows of a board, line by line.
 use Rattle.std.proofs.Common.{◌≡◌, ℕ, suc, ◌+◌, ◌-◌, ◌<◌, ◌≤◌, Bool, List, ◌∷◌, ◌++◌, length, take, replicate, flat_map, refl, sym, ap, ◌∙◌, arith}
-use Rattle.std.proofs.Common.{append_assoc, subst, Some, None, Result, Vec, Global}
+use Rattle.std.proofs.Common.{append_assoc, subst, Some, None, Result, Err, Vec, Global}
 use Rattle.std.proofs.Math.Seq.{take-append_seam}
 use Rattle.std.proofs.lemmas.Nat.{mul-le}
 use Rattle.grid.specs.declared.cell.Cell.{Cell}
 use Rattle.grid.specs.declared.limits.TheConstants.{MAX_ROWS, MAX_COLS}
 use Rattle.xsb.specs.Boards.{board_of, cols_of, padded}
 use Rattle.xsb.specs.Collection.{Found}
-use Rattle.xsb.specs.Places.{IsExcess, IsFirstPast, is_plain, row_places}
+use Rattle.xsb.specs.Places.{IsFirstPast, is_plain, row_places}
 use Rattle.xsb.specs.Rows.{pieces_of}
 use Rattle.xsb.specs.declared.boards.Stretch.{Stretch}
 use Rattle.xsb.specs.declared.lines.Lines.{Lines}
@@ -20,7 +20,7 @@ use Rattle.xsb.specs.inside.Gaps.{BeginsGap}
 use Rattle.xsb.specs.inside.Reading.{cut_line, cut_lines}
 use Rattle.xsb.specs.inside.Sources.{AreRowsOf, HasRowsFor, HasSource, IsTaken}
 use Rattle.xsb.specs.inside.Stretches.{HasRows, IsPastAt}
-use Rattle.xsb.proofs.Judging.{HasRows-cols, cols-exact, length-padded_rows, same-board}
+use Rattle.xsb.proofs.Judging.{HasRows-cols, cols-exact, length-padded_rows, row_count-board_of, same-board, tall-fault, wide-fault}
 
 -- the places so far, and those of the lines that are left, are all places
 pub record Placing (all : List RowPlace) (count k number : ℕ) (rest : List (List ℕ)) (places : List RowPlace) : Type 0 where
@@ -55,16 +55,21 @@ lines-of {stretch} has = sym (ap (take stretch.count) has.whole ∙ take-front h
 
 -- its rows are too many, or too long
 pub rows-tall : {stretch : Stretch} (rows : List (List Cell)) (n : ℕ) → HasRows stretch rows → stretch.beyond.rows ≡ Some n →
-    IsExcess (take stretch.count (cut_lines stretch.lines)) stretch.first_line (Rows n)
+    HasRowsFor (take stretch.count (cut_lines stretch.lines)) stretch.first_line (board_of rows) (Err (Rows n))
 rows-tall {stretch} rows n has is =
-    subst (λ l. IsFirstPast length MAX_ROWS l stretch.first_line n) (lines-of has)
-    (subst (λ o. IsPastAt length MAX_ROWS has.lines rows stretch.first_line o) is has.past.tall)
+    let past = subst (λ o. IsPastAt length MAX_ROWS has.lines rows stretch.first_line o) is has.past.tall in (
+      subst (λ l. IsFirstPast length MAX_ROWS l stretch.first_line n) (lines-of has) past.0,
+      tall-fault rows (HasRows-cols has) past.1,
+    )
 
-pub rows-wide : {stretch : Stretch} (rows : List (List Cell)) (n : ℕ) → HasRows stretch rows → stretch.beyond.cols ≡ Some n →
-    IsExcess (take stretch.count (cut_lines stretch.lines)) stretch.first_line (Columns n)
-rows-wide {stretch} rows n has is =
-    subst (λ l. IsFirstPast cols_of MAX_COLS l stretch.first_line n) (lines-of has)
-    (subst (λ o. IsPastAt cols_of MAX_COLS has.lines rows stretch.first_line o) is has.past.wide)
+pub rows-wide : {stretch : Stretch} (rows : List (List Cell)) (n : ℕ) → HasRows stretch rows → stretch.beyond.rows ≡ None → stretch.beyond.cols ≡ Some n →
+    HasRowsFor (take stretch.count (cut_lines stretch.lines)) stretch.first_line (board_of rows) (Err (Columns n))
+rows-wide {stretch} rows n has short is =
+    let few : length rows ≤ MAX_ROWS = subst (λ o. IsPastAt length MAX_ROWS has.lines rows stretch.first_line o) short has.past.tall in
+    let past = subst (λ o. IsPastAt cols_of MAX_COLS has.lines rows stretch.first_line o) is has.past.wide in (
+      subst (λ l. IsFirstPast cols_of MAX_COLS l stretch.first_line n) (lines-of has) past.0,
+      wide-fault rows (HasRows-cols has) few past.1,
+    )
 
 -- or they are within the limits
 pub rows-made : {stretch : Stretch} (rows : List (List Cell)) (cells : Vec Cell Global) (places : Vec RowPlace Global) → HasRows stretch rows →
@@ -87,6 +92,7 @@ rows-made {stretch} rows cells places has short narrow made are =
       places_are = sym are;
       columns = omega arith;
       wide = small;
+      tall = let n = row_count-board_of rows some in omega arith;
       bound = omega arith;
     }
 

@@ -5,6 +5,8 @@ use Rattle.std.specs.Char.{is_ascii_digit}
 use Rattle.std.specs.List.{AllZip, list_any}
 use Rattle.grid.specs.Board.{Board}
 use Rattle.grid.specs.declared.cell.Cell.{Cell}
+use Rattle.grid.specs.declared.fault.LevelFault.{LevelFault}
+use Rattle.grid.specs.declared.fault.LevelFault.TheVariants.{TooTall, TooWide}
 use Rattle.grid.specs.declared.limits.TheConstants.{MAX_ROWS, MAX_COLS}
 use Rattle.xsb.specs.declared.places.Excess.{Excess}
 use Rattle.xsb.specs.declared.places.Excess.TheVariants.{Rows, Columns}
@@ -66,3 +68,8 @@ pub record IsFirstPast (count : List (List Cell) → ℕ) (most : ℕ) (lines : 
 abbrev pub IsExcess : List (List ℕ) → ℕ → Excess → Type 0
 IsExcess lines first (Rows n) = IsFirstPast length MAX_ROWS lines first n
 IsExcess lines first (Columns n) = IsFirstPast cols_of MAX_COLS lines first n
+
+-- the fault of a board that is too large
+abbrev pub excess_fault : Excess → LevelFault
+excess_fault (Rows n) = TooTall
+excess_fault (Columns n) = TooWide

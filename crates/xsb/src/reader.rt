@@ -15,6 +15,9 @@ use crate::names::Gap;
 use crate::places::BoardSource;
 use std::alloc::{AllocError, Global};
 
+/// A board, the lines that it was read from, and the collection after it.
+type TakenBoard<'a> = (BoardEntry, Stretch<'a>, Collection<'a>);
+
 /// A collection that is read board by board. Only one board is in memory, unless the caller keeps more.
 #[derive(Drop)]
 pub struct Collection<'a> {
@@ -52,49 +55,50 @@ impl<'a> Collection<'a> {
         ensures fewer { IfOk result (λ next. IfSome next (λ _. lines_left self.new < lines_left self.old)) }
         ensures err { OnErr result (self.new ≡ self.old) }
     {
-        match self.take_board(alloc)? {
-            None => Ok(None),
-            Some((entry, _)) => Ok(Some(entry)),
-        }
+        let Some((entry, _, left)) = self.take_board(alloc)? else {
+            return Ok(None);
+        };
+        *self = left;
+        Ok(Some(entry))
     }
 
-    /// The next board with its rows; `None` after the last, now and in later calls. Fails only if out of memory.
+    /// The next board with its rows; `None` after the last, now and in later calls. Fails only if out of memory. The
+    /// collection is then unchanged, so the next call tries the same board again.
     pub fn next_source(&mut self, alloc: Global) -> Result<Option<BoardSource>, AllocError>
         ensures next { (bytes : List ℕ) (founds : List Found) → HasRead bytes self.old founds → IsAt bytes self.old.lines →
             IfOk result (GivesSource bytes founds self.new) }
-        ensures fewer { IfOk result (λ next. IfSome next (λ _. lines_left self.new < lines_left self.old)) }
-    {
-        let Some((entry, stretch)) = self.take_board(alloc)? else {
-            return Ok(None);
-        };
-        let rows = stretch.rows(alloc)?;
-        Ok(Some(BoardSource { entry, rows }))
-    }
-
-    /// The next board, and the lines that it was read from.
-    fn take_board(&mut self, alloc: Global) -> Result<Option<(BoardEntry, Stretch<'a>)>, AllocError>
-        ensures next { (bytes : List ℕ) (founds : List Found) → HasRead bytes self.old founds →
-            IfOk result (λ next. Takes bytes founds self.old self.new next) }
-        ensures few { IfOk result (λ next. IfSome next (λ taken. taken.1.first_line + taken.1.count ≤ MAX_FILE + 1)) }
         ensures last { IfOk result (λ next. IfNone next (self.new ≡ self.old)) }
         ensures fewer { IfOk result (λ next. IfSome next (λ _. lines_left self.new < lines_left self.old)) }
         ensures err { OnErr result (self.new ≡ self.old) }
+    {
+        let Some((entry, stretch, left)) = self.take_board(alloc)? else {
+            return Ok(None);
+        };
+        let rows = stretch.rows(alloc)?;
+        *self = left;
+        Ok(Some(BoardSource { entry, rows }))
+    }
+
+    /// The next board, the lines that it was read from, and the collection after it.
+    fn take_board(&self, alloc: Global) -> Result<Option<TakenBoard<'a>>, AllocError>
+        ensures next { (bytes : List ℕ) (founds : List Found) → HasRead bytes self.now founds →
+            IfOk result (Takes bytes founds self.now) }
+        ensures few { IfOk result (λ next. IfSome next (λ taken. taken.1.first_line + taken.1.count ≤ MAX_FILE + 1)) }
+        ensures fewer { IfOk result (λ next. IfSome next (λ taken. lines_left taken.2 < lines_left self.now)) }
     {
         let mut lines = self.lines.copy();
         let Some(board) = read_board(&mut lines) else {
             return Ok(None);
         };
-        let after = read_gap(&mut lines);
-        let name = Vec::from_slice(alloc, self.before.name_with(&after))?;
+        let before = read_gap(&mut lines);
+        let name = Vec::from_slice(alloc, self.before.name_with(&before))?;
         let judged = board.board(alloc)?;
-        self.lines = lines;
-        self.before = after;
         let entry = BoardEntry {
             name,
             first_line: board.first_line,
             board: judged,
         };
-        Ok(Some((entry, board)))
+        Ok(Some((entry, board, Collection { lines, before })))
     }
 }
 

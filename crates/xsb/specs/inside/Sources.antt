@@ -1,11 +1,12 @@
 -- What the reader answers of a board and its rows.
 use Rattle.std.specs.Prelude.{◌≡◌, ℕ, ◌≤◌, List, [], ◌∷◌, ◌++◌, length, Option, Some, None, Result, Ok, Err}
 use Rattle.grid.specs.Board.{Board}
-use Rattle.grid.specs.declared.limits.TheConstants.{MAX_COLS}
+use Rattle.grid.specs.Lawful.{cell_fault, row_count}
+use Rattle.grid.specs.declared.limits.TheConstants.{MAX_ROWS, MAX_COLS}
 use Rattle.xsb.specs.Boards.{board_of}
 use Rattle.xsb.specs.Collection.{Found, IsCollection}
 use Rattle.xsb.specs.Entries.{IsBoardEntry}
-use Rattle.xsb.specs.Places.{IsBoardAt, IsExcess, row_places}
+use Rattle.xsb.specs.Places.{IsBoardAt, IsExcess, excess_fault, row_places}
 use Rattle.xsb.specs.declared.boards.Stretch.{Stretch}
 use Rattle.xsb.specs.declared.entry.BoardEntry.{BoardEntry}
 use Rattle.xsb.specs.declared.lines.Lines.{Lines}
@@ -27,11 +28,11 @@ pub record IsTaken (old new : Lines) (found : Found) (stretch : Stretch) : Type 
   pub onward : (bytes : List ℕ) → IsAt bytes old → IsAt bytes new
 
 -- the next board with the lines that it was read from, and the collection after it; or these boards are all
-abbrev pub Takes : List ℕ → List Found → Collection → Collection → Option (BoardEntry × Stretch) → Type 0
-Takes bytes founds old new None = IsCollection bytes founds
-Takes bytes founds old new (Some taken) =
-    (found : Found) × IsBoardEntry taken.0 found × HasRead bytes new (founds ++ found ∷ []) ×
-    IsTaken old.lines new.lines found taken.1
+abbrev pub Takes : List ℕ → List Found → Collection → Option (BoardEntry × Stretch × Collection) → Type 0
+Takes bytes founds left None = IsCollection bytes founds
+Takes bytes founds left (Some taken) =
+    (found : Found) × IsBoardEntry taken.0 found × HasRead bytes taken.2 (founds ++ found ∷ []) ×
+    IsTaken left.lines taken.2.lines found taken.1
 
 -- the rows of a board that was not too large, in its lines from this one on
 pub record AreRowsOf (lines : List (List ℕ)) (first : ℕ) (board : Board) (rows : BoardRows) : Type 0 where
@@ -39,12 +40,14 @@ pub record AreRowsOf (lines : List (List ℕ)) (first : ℕ) (board : Board) (ro
   pub places_are : row_places first lines ≡ rows.places.items
   pub columns : 1 ≤ rows.cols
   pub wide : rows.cols ≤ MAX_COLS
+  pub tall : row_count board ≤ MAX_ROWS
   pub bound : length rows.cells.items ≤ 65535
 
 -- the rows of a board, or where it is too large
 abbrev pub HasRowsFor : List (List ℕ) → ℕ → Board → Result BoardRows Excess → Type 0
 HasRowsFor lines first board (Ok rows) = AreRowsOf lines first board rows
-HasRowsFor lines first board (Err excess) = IsExcess lines first excess
+HasRowsFor lines first board (Err excess) =
+    IsExcess lines first excess × (cell_fault board ≡ Some (excess_fault excess))
 
 -- the board that was found is read from the lines at its first line, with these rows
 abbrev pub HasSource : List ℕ → Found → Result BoardRows Excess → Type 0

@@ -35,7 +35,7 @@ beyond_with beyond size n = record {
 -- the first of these lines up to which the rows have more than the most of something; none if they have not
 abbrev pub IsPastAt : (List (List Cell) → ℕ) → ℕ → List (List ℕ) → List (List Cell) → ℕ → Option ℕ → Type 0
 IsPastAt count most lines rows first found =
-    MatchOption found (count rows ≤ most) (λ n. IsFirstPast count most lines first n)
+    MatchOption found (count rows ≤ most) (λ n. IsFirstPast count most lines first n × (most < count rows))
 
 -- the lines up to which the rows of these lines are too large
 pub record ArePast (lines : List (List ℕ)) (rows : List (List Cell)) (first : ℕ) (beyond : Beyond) : Type 0 where

@@ -5,7 +5,7 @@ pub returns-in-Some : goal.returns-in-Some
 returns-in-Some c = λ rows has. rows-tall rows c.in-Some.line has c.in-Some.is
 
 pub returns-in-Some-cols : goal.returns-in-Some-cols
-returns-in-Some-cols c = λ rows has. rows-wide rows c.in-Some-cols.line has c.in-Some-cols.is
+returns-in-Some-cols c = λ rows has. rows-wide rows c.in-Some-cols.line has c.in_default.is c.in-Some-cols.is
 
 pub returns : goal.returns
 returns c = λ rows has.
