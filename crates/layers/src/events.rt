@@ -75,6 +75,22 @@ impl Book {
         ensures refusal { IfErr result (λ refusal. HandBackRefused self.old parcel.now refusal) }
         ensures err { IfErr result (λ refusal. self.new ≡ after_refusal self.old refusal) }
     {
+        if !parcel.is_of(&self.problem) {
+            return Err(Refusal::OtherLevel);
+        }
+        self.hand_back_own(worker, parcel)
+    }
+
+    /// [`Book::hand_back`] of a parcel that is known to be of the book's level and cap. It does not compare them, which
+    /// takes longer than the rest on a large grid.
+    pub fn hand_back_own(&mut self, worker: u8, parcel: &Parcel<'_>) -> Result<(), Refusal>
+        requires worker { worker < self.old.workers }
+        requires level { parcel.now.level ≡ self.old.level }
+        ensures may { OnOk result (MayEnter self.old parcel.now) }
+        ensures ok { OnOk result (self.new ≡ with_parcel self.old worker parcel.now) }
+        ensures refusal { IfErr result (λ refusal. HandBackRefused self.old parcel.now refusal) }
+        ensures err { IfErr result (λ refusal. self.new ≡ after_refusal self.old refusal) }
+    {
         parcel.tell();
         if let Some(refusal) = self.refusal_of(parcel) {
             return Err(refusal);
@@ -103,16 +119,15 @@ impl Book {
         Ok(())
     }
 
-    // The reason to refuse a parcel without a look at its successors: its rank is not one that is still to be done.
+    // The reason to refuse a parcel of the book's level without a look at its successors: its rank is not one that is
+    // still to be done.
     fn refusal_of(&self, parcel: &Parcel<'_>) -> Option<Refusal>
+        requires { parcel.now.level ≡ self.now.level }
         ensures none { IfNone result (IsAtWork self.now parcel.now ×
             (slice_get self.now.done parcel.now.rank ≡ Some false)) }
         ensures some { IfSome result (λ refusal. HandBackRefused self.now parcel.now refusal) }
         ensures unchanged { IfSome result (λ refusal. after_refusal self.now refusal ≡ self.now) }
     {
-        if !parcel.is_of(&self.problem) {
-            return Some(Refusal::OtherLevel);
-        }
         if parcel.layer() != self.layer() {
             return Some(Refusal::OtherLayer);
         }

@@ -100,7 +100,7 @@ fn enter(book: &mut Book, worker: u8, parcel: &Parcel<'_>) -> Result<bool, Alloc
         (book.new ≡ with_over book.old)) }
     ensures err { OnErr result (book.new ≡ book.old) }
 {
-    match book.hand_back(worker, parcel) {
+    match book.hand_back_own(worker, parcel) {
         Ok(()) => Ok(true),
         Err(Refusal::Over) => Ok(false),
         Err(Refusal::OutOfMemory) => Err(AllocError),

@@ -10,7 +10,7 @@ use Rattle.store.specs.Entering.{is_wanted_in, entered}
 use Rattle.layers.proofs.Cuts.{total-cuts}
 use Rattle.layers.proofs.lemmas.Books.{begun-since, few_ranks, tally_bound}
 use Rattle.layers.proofs.lemmas.BookFields.{handed_all, limit_same, none_entered, nothing_passes, may_enter, over_limit, over_lawful, taken_done, fits_few}
-use Rattle.layers.proofs.book.Book.hand_back.Goals as goal
+use Rattle.layers.proofs.book.Book.hand_back_own.Goals as goal
 
 pub passes-requires-clause-few : goal.passes-requires-clause-few
 passes-requires-clause-few c =
@@ -103,7 +103,7 @@ invariant_of-self c =
     let same = none_entered a.found.seen a.shares a.share p.rank 0 p.successors a.found.waiting (c.if-brings_nothing.ensures refl) in
     let all = handed_all a c.self.invariant.lawful c.self.invariant.cuts p c.tell.ensures now c.self.view_is found c.args.worker c.rank-rank.result
     a.found.seen a.found.waiting c.mark.new.done c.mark.new.tallies.items
-    refl (sym same) c.mark.ensures.done c.rank-rank.ensures c.mark.ensures.tally (subst (λ v. c.args.worker < v.workers) (sym c.self.view_is) c.requires)
+    refl (sym same) c.mark.ensures.done c.rank-rank.ensures c.mark.ensures.tally (subst (λ v. c.args.worker < v.workers) (sym c.self.view_is) c.requires.worker)
     c.if-self.false (nothing_passes a c.self.invariant.lawful c.self.invariant.cuts now c.self.view_is p.rank p.successors same) in record {
       lawful = all.0;
       few = c.self.invariant.few;
@@ -128,7 +128,7 @@ returns-then-brings_nothing-clause-ok c =
     let all = handed_all a c.self.invariant.lawful c.self.invariant.cuts p c.tell.ensures now c.self.view_is found c.args.worker
     c.rank-rank.result a.found.seen a.found.waiting c.mark.new.done c.mark.new.tallies.items
     refl (sym same) c.mark.ensures.done c.rank-rank.ensures c.mark.ensures.tally
-    (subst (λ v. c.args.worker < v.workers) (sym c.self.view_is) c.requires) c.if-self.false
+    (subst (λ v. c.args.worker < v.workers) (sym c.self.view_is) c.requires.worker) c.if-self.false
     (nothing_passes a c.self.invariant.lawful c.self.invariant.cuts now c.self.view_is p.rank p.successors same) in
     all.1
 
@@ -143,7 +143,7 @@ invariant_of-self-2 c =
     ap (λ (f : FoundView). f.waiting) put in
     let all = handed_all a c.self.invariant.lawful c.self.invariant.cuts p c.tell.ensures now c.self.view_is found c.args.worker c.rank-rank.result
     c.enter_all.new.self.seen c.enter_all.new.self.waiting c.mark-2.new.done c.mark-2.new.tallies.items
-    seen waits c.mark-2.ensures.done c.rank-rank.ensures c.mark-2.ensures.tally (subst (λ v. c.args.worker < v.workers) (sym c.self.view_is) c.requires)
+    seen waits c.mark-2.ensures.done c.rank-rank.ensures c.mark-2.ensures.tally (subst (λ v. c.args.worker < v.workers) (sym c.self.view_is) c.requires.worker)
     c.if-self.false
     (limit_same a c.self.invariant.cuts now c.self.view_is p.rank c.successors-successors.result.now p.successors c.successors-successors.ensures false
     (c.if-passes.ensures.passed p.rank)) in record {
@@ -173,6 +173,6 @@ returns-clause-ok c =
     let all = handed_all a c.self.invariant.lawful c.self.invariant.cuts p c.tell.ensures now c.self.view_is found c.args.worker
     c.rank-rank.result c.enter_all.new.self.seen c.enter_all.new.self.waiting c.mark-2.new.done c.mark-2.new.tallies.items
     seen waits c.mark-2.ensures.done c.rank-rank.ensures c.mark-2.ensures.tally
-    (subst (λ v. c.args.worker < v.workers) (sym c.self.view_is) c.requires) c.if-self.false
+    (subst (λ v. c.args.worker < v.workers) (sym c.self.view_is) c.requires.worker) c.if-self.false
     (limit_same a c.self.invariant.cuts now c.self.view_is p.rank c.successors-successors.result.now p.successors c.successors-successors.ensures
     false (c.if-passes.ensures.passed p.rank)) in all.1
