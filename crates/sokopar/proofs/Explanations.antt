@@ -1,16 +1,17 @@
 -- A collection, as its levels are explained one by one.
 use Rattle.std.proofs.Common.{◌≡◌, ℕ, suc, ◌+◌, ◌<◌, ◌≤◌, Bool, true, false, cond, ◌&&◌, List, [], ◌∷◌, ◌++◌, length, Option, Some, None, Result, refl, sym, ap, ◌∙◌, subst}
-use Rattle.std.proofs.Common.{Ok, Err, OnOk, arith, IfOk, IfSome, is_none, append_assoc, append-nil}
+use Rattle.std.proofs.Common.{Ok, Err, OnOk, inl, inr, IfOk, IfSome, is_none, append_assoc, append-nil}
 use Rattle.std.proofs.lemmas.Bool.{false≢true}
 use Rattle.grid.specs.Board.{Board}
 use Rattle.grid.specs.declared.fault.LevelFault.{LevelFault}
+use Rattle.grid.specs.Lawful.{cell_fault, row_count}
+use Rattle.grid.specs.declared.limits.TheConstants.{MAX_ROWS}
 use Rattle.xsb.specs.Collection.{Found, IsJudged}
 use Rattle.xsb.specs.Entries.{IsBoardEntry}
 use Rattle.xsb.specs.declared.entry.BoardEntry.{BoardEntry}
 use Rattle.xsb.specs.Breaks.{IsBroken}
-use Rattle.xsb.specs.Places.{IsBoardAt, IsExcess}
+use Rattle.xsb.specs.Places.{IsBoardAt, IsExcess, excess_fault}
 use Rattle.xsb.specs.declared.breaks.BrokenRow.{BrokenRow}
-use Rattle.xsb.specs.declared.breaks.BrokenRows.{BrokenRows}
 use Rattle.xsb.specs.declared.limits.TheConstants.{MAX_FILE}
 use Rattle.xsb.specs.declared.places.BoardRows.{BoardRows}
 use Rattle.xsb.specs.declared.places.BoardSource.{BoardSource}
@@ -21,7 +22,7 @@ use Rattle.xsb.specs.inside.Cursors.{IsAt}
 use Rattle.xsb.specs.inside.Progress.{HasRead, lines_left}
 use Rattle.xsb.specs.inside.Sources.{AreRowsOf, GivesSource, HasRowsFor}
 use Rattle.sokopar.specs.Entries.{listed_of}
-use Rattle.sokopar.specs.Explaining.{Explains, IsExplainReport, explained, IsPicture, IsTrueOf, broken_line, drawn, is_drawn, is_quiet, is_sound, is_wanted}
+use Rattle.sokopar.specs.Explaining.{Explains, IsExplainReport, explained, IsPicture, IsRemarkOn, broken_line, drawn, is_drawn, is_quiet, is_sound, is_wanted}
 use Rattle.sokopar.specs.Explaining.{excess_words, level_text, remark_words, broken, large, other, told}
 use Rattle.sokopar.specs.Listing.{Listed, IsLevelListing}
 use Rattle.sokopar.specs.Report.{Report, check_line}
@@ -29,7 +30,7 @@ use Rattle.sokopar.specs.declared.explain.Broken.{Broken}
 use Rattle.sokopar.specs.declared.explain.Page.{Page}
 use Rattle.sokopar.specs.declared.remark.Remark.{Remark}
 use Rattle.sokopar.specs.declared.remark.Remark.TheVariants.{Players, Unequal, Exit, DeadBoxes, Frozen, Sound}
-use Rattle.sokopar.specs.inside.Explaining.{HaveBroken, board_in}
+use Rattle.sokopar.specs.inside.Explaining.{AreBounded, HaveBroken, board_in}
 use Rattle.sokopar.specs.inside.Pages.{Adds, IsPage, IsSourceOf, Tells}
 use Rattle.sokopar.specs.inside.Parts.{is_good}
 use Rattle.sokopar.proofs.Listings.{HasChecked, checked-more, checked-none}
@@ -94,16 +95,16 @@ page-passed {bytes} {wanted} {listing} {page} {gap} new left is rest same = reco
 -- a level is told
 pub level-told : (bytes : List ℕ) (wanted : Option ℕ) (number : ℕ) (listing : List Listed) (listed : Listed) (board : Board)
     (places : List RowPlace) (remark : Remark) (old new : Page) → number ≡ suc (length listing) → is_wanted wanted number ≡ true →
-    IsBoardAt bytes listed.first_line board places → IsJudged board listed.board → IsTrueOf board remark →
+    IsBoardAt bytes listed.first_line board places → IsJudged board listed.board → IsRemarkOn listed.board board remark →
     Tells wanted number listed board places remark old new →
     Explains bytes wanted listing old.text old.sound → Explains bytes wanted (listing ++ listed ∷ []) new.text new.sound
-level-told bytes wanted number listing listed board places remark old new count is at_line judged true_of tells before =
+level-told bytes wanted number listing listed board places remark old new count is at_line judged remark_on tells before =
     let picture = tells.0 in
     let adds = tells.2 in
     subst (λ s. Explains bytes wanted (listing ++ listed ∷ []) new.text s) (sym adds.1)
     (subst (λ t. Explains bytes wanted (listing ++ listed ∷ []) t (old.sound && is_sound remark))
     (sym (adds.0 ∙ ap (λ n. old.text ++ level_text wanted n listed board places remark picture) count))
-    (told listed board places remark picture before (ap (is_wanted wanted) (sym count) ∙ is) at_line judged true_of tells.1))
+    (told listed board places remark picture before (ap (is_wanted wanted) (sym count) ∙ is) at_line judged remark_on tells.1))
 
 -- or it is another one
 pub level-other : (bytes : List ℕ) (wanted : Option ℕ) (number : ℕ) (listing : List Listed) (listed : Listed) (page : Page) →
@@ -186,23 +187,32 @@ pub rows-of : (source : BoardSource) (rows : BoardRows) (found : Found) → IsSo
 rows-of source rows found is e =
     let has = is.1 in (has.0, has.1, subst (λ (r : Result BoardRows Excess). HasRowsFor has.0 has.1 found.board r) e has.2)
 
+pub bounds-of : (source : BoardSource) (rows : BoardRows) (found : Found) → IsSourceOf source found → source.rows ≡ Ok rows → AreBounded rows
+bounds-of source rows found is e =
+    let has = rows-of source rows found is e in record {
+      columns = has.2.columns;
+      wide = has.2.wide;
+      tall = subst (λ (b : Board). row_count b ≤ MAX_ROWS) has.2.board_is has.2.tall;
+      bound = has.2.bound;
+    }
+
 pub judged-of : (source : BoardSource) (rows : BoardRows) (found : Found) → IsSourceOf source found → source.rows ≡ Ok rows →
     IsJudged (board_in rows) source.entry.board
 judged-of source rows found is e =
     let has = rows-of source rows found is e in subst (λ (b : Board). IsJudged b source.entry.board) has.2.board_is is.0
 
 -- what is found is told, if memory lasts
-pub found-told : {A E : Type 0} (result : Result A E) (board : Board) (remark : Remark) (Tale : Remark → Type 0) → IsTrueOf board remark →
-    OnOk result (Tale remark) → OnOk result ((one : Remark) × IsTrueOf board one × Tale one)
-found-told (Err e) board remark Tale true_of told_of = tt
-found-told (Ok a) board remark Tale true_of told_of = (remark, true_of, told_of)
+pub found-told : {A E : Type 0} (result : Result A E) (remark : Remark) (IsOn Tale : Remark → Type 0) → IsOn remark →
+    OnOk result (Tale remark) → OnOk result ((one : Remark) × IsOn one × Tale one)
+found-told (Err e) remark IsOn Tale remark_on told_of = tt
+found-told (Ok a) remark IsOn Tale remark_on told_of = (remark, remark_on, told_of)
 
 -- a wanted level is told, if memory lasts
 pub level-written : {A E : Type 0} (result : Result A E) (bytes : List ℕ) (wanted : Option ℕ) (number : ℕ) (listing : List Listed)
     (entry : BoardEntry) (found : Found) (places : List RowPlace) (rows : BoardRows) (old new : Page) → number ≡ suc (length listing) →
     is_wanted wanted number ≡ true → IsBoardEntry entry found → (here : IsBoardAt bytes found.first_line found.board places) →
     AreRowsOf here.lines found.first_line found.board rows →
-    OnOk result ((remark : Remark) × IsTrueOf (board_in rows) remark ×
+    OnOk result ((remark : Remark) × IsRemarkOn entry.board (board_in rows) remark ×
     Tells wanted number (listed_of entry) (board_in rows) rows.places.items remark old new) →
     Explains bytes wanted listing old.text old.sound → OnOk result (Explains bytes wanted (listing ++ listed_of entry ∷ []) new.text new.sound)
 level-written (Err e) bytes wanted number listing entry found places rows old new count is listed here has tells before = tt
@@ -213,21 +223,34 @@ level-written (Ok a) bytes wanted number listing entry found places rows old new
     (subst (λ (ps : List RowPlace). IsBoardAt bytes entry.first_line (board_in rows) ps) (here.places_are ∙ has.places_are) at_board)
     (subst (λ (b : Board). IsJudged b entry.board) has.board_is listed.board) tells.1 tells.2 before
 
+-- a board that is too large is judged so
+judged_large : (judged : Result Board LevelFault) (board : Board) (excess : Excess) → IsJudged board judged →
+    cell_fault board ≡ Some (excess_fault excess) → judged ≡ Err (excess_fault excess)
+judged_large (Ok level) board excess is over =
+    absurd (let no : ◌≡◌ {A = Option LevelFault} None (Some (excess_fault excess)) = sym is.1.lawful.cells ∙ ap cell_fault is.0 ∙ over in cc)
+judged_large (Err fault) board excess (inl is) over =
+    let both : ◌≡◌ {A = Option LevelFault} (Some fault) (Some (excess_fault excess)) = sym is ∙ over in
+    let same : fault ≡ excess_fault excess = cc in
+    ap Err same
+judged_large (Err fault) board excess (inr gap) over =
+    absurd (let no : ◌≡◌ {A = Option LevelFault} None (Some (excess_fault excess)) = sym gap.0 ∙ over in cc)
+
 -- or it is too large
 pub level-large : {A E : Type 0} (result : Result A E) (bytes : List ℕ) (wanted : Option ℕ) (number : ℕ) (listing : List Listed)
     (entry : BoardEntry) (found : Found) (places : List RowPlace) (excess : Excess) (old new : Page) → number ≡ suc (length listing) →
     is_wanted wanted number ≡ true → IsBoardEntry entry found → (here : IsBoardAt bytes found.first_line found.board places) →
-    IsExcess here.lines found.first_line excess →
+    HasRowsFor here.lines found.first_line found.board (Err excess) →
     OnOk result ((new.text ≡ old.text ++ check_line number (listed_of entry) ++ excess_words excess) × (new.sound ≡ false)) →
     Explains bytes wanted listing old.text old.sound → OnOk result (Explains bytes wanted (listing ++ listed_of entry ∷ []) new.text new.sound)
 level-large (Err e) bytes wanted number listing entry found places excess old new count is listed here past said before = tt
 level-large (Ok a) bytes wanted number listing entry found places excess old new count is listed here past said before =
     let all = listing ++ listed_of entry ∷ [] in
     let P : ℕ → Type 0 = λ n. (board : IsBoardAt bytes n found.board places) × IsExcess board.lines n excess in
-    let there = subst P (sym listed.first_line) (here, past) in
+    let there = subst P (sym listed.first_line) (here, past.0) in
     subst (λ s. Explains bytes wanted all new.text s) (sym said.1)
     (subst (λ t. Explains bytes wanted all t false) (sym (said.0 ∙ ap (λ n. old.text ++ check_line n (listed_of entry) ++ excess_words excess) count))
-    (large (listed_of entry) found.board places excess before (ap (is_wanted wanted) (sym count) ∙ is) there.0 listed.board there.1))
+    (large (listed_of entry) found.board places excess before (ap (is_wanted wanted) (sym count) ∙ is) there.0 listed.board
+    (judged_large entry.board found.board excess listed.board past.1) there.1))
 
 -- the board of a source, as it is given
 pub source-of : (bytes : List ℕ) (founds : List Found) (last : Collection) (source : BoardSource) →

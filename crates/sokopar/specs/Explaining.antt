@@ -1,19 +1,20 @@
 -- What explaining the levels of a collection writes: where and why each is faulty or cannot be solved.
-use Rattle.std.specs.Prelude.{◌≡◌, ℕ, zero, suc, ◌+◌, ◌-◌, ◌/◌, ◌%◌, ◌<◌, Bool, true, false, cond, ◌&&◌, ◌==◌, nat_lt}
+use Rattle.std.specs.Prelude.{◌≡◌, ◌≢◌, ℕ, zero, suc, ◌+◌, ◌-◌, ◌/◌, ◌%◌, ◌<◌, Bool, true, false, cond, ◌&&◌, ◌==◌, nat_lt}
 use Rattle.std.specs.Prelude.{List, [], ◌∷◌, ◌++◌, length, take, map, flat_map, get_or, slice_get, slice_index, codes, decimal}
 use Rattle.std.specs.Prelude.{Option, Some, None, is_some, is_none, Result, Ok, Err, IsTrue, ◌↔◌}
 use Rattle.grid.specs.declared.cell.Cell.{Cell}
 use Rattle.grid.specs.declared.cell.Cell.TheVariants.{Wall, Floor, Box}
 use Rattle.grid.specs.declared.dir.Dir.{Dir}
 use Rattle.grid.specs.declared.fault.LevelFault.{LevelFault}
+use Rattle.grid.specs.declared.fault.LevelFault.TheVariants.{NoPlayer, TwoPlayers, NoBox, Counts, Open}
 use Rattle.grid.specs.declared.limits.TheConstants.{MAX_ROWS, MAX_COLS}
 use Rattle.grid.specs.Board.{Board, box_cell, goal_cell, player_cell, next, start}
-use Rattle.grid.specs.Lawful.{InRoom, IsLevel, row_count}
+use Rattle.grid.specs.Lawful.{InRoom, row_count}
 use Rattle.grid.specs.Squares.{Squares, contains, places_from}
 use Rattle.doom.specs.Deadlocks.{IsDead, IsFrozen, Undoomed}
 use Rattle.xsb.specs.Breaks.{IsBroken}
 use Rattle.xsb.specs.Collection.{IsJudged}
-use Rattle.xsb.specs.Places.{IsBoardAt, IsExcess}
+use Rattle.xsb.specs.Places.{IsBoardAt, IsExcess, excess_fault}
 use Rattle.xsb.specs.Rows.{cell_byte}
 use Rattle.xsb.specs.Written.{rows_from}
 use Rattle.xsb.specs.declared.breaks.BrokenRow.{BrokenRow}
@@ -79,19 +80,41 @@ remark_words cols places Sound = sentence (codes "nothing found against it, whic
 abbrev pub IsExit : Board → ℕ → Type 0
 IsExit board q = InRoom board q × ((d : Dir) × (next board q d ≡ length board.cells))
 
--- the remark is true of a board: all its players, or all its boxes and goals; or a square at the grid's edge that steps
--- lead to, boxes ignored; or boxes on dead squares, or boxes some of which are frozen, so that no play solves the level
-abbrev pub IsTrueOf : Board → Remark → Type 0
-IsTrueOf board (Players squares) = squares.items ≡ places_from player_cell 0 board.cells
-IsTrueOf board (Unequal boxes goals) =
-    (boxes.items ≡ places_from box_cell 0 board.cells) × (goals.items ≡ places_from goal_cell 0 board.cells)
-IsTrueOf board (Exit q) = IsExit board q
-IsTrueOf board (DeadBoxes squares) = IsUnsolvable board ×
-    ((q : ℕ) → contains squares.items q ≡ true → (contains (start board).boxes q ≡ true) × IsDead board q)
-IsTrueOf board (Frozen squares) = IsUnsolvable board ×
+-- the squares are those of the boxes that are on dead squares, in order
+pub data AreDeadOf (board : Board) : Squares → Squares → Type 0 where
+  no_box : AreDeadOf board [] []
+  on_dead : {q : ℕ} {boxes squares : Squares} → IsDead board q → AreDeadOf board boxes squares →
+      AreDeadOf board (q ∷ boxes) (q ∷ squares)
+  on_live : {q : ℕ} {boxes squares : Squares} → ¬ (IsDead board q) → AreDeadOf board boxes squares →
+      AreDeadOf board (q ∷ boxes) squares
+
+-- the remark on a lawful level: the boxes of its start that are on dead squares, if there are any; else boxes of its
+-- start some of which are frozen, if there are any, and either way no play solves the level; else nothing
+abbrev pub IsRemarkOnLevel : Board → Remark → Type 0
+IsRemarkOnLevel board (DeadBoxes squares) =
+    IsUnsolvable board × AreDeadOf board (start board).boxes squares.items × (squares.items ≢ [])
+IsRemarkOnLevel board (Frozen squares) = IsUnsolvable board × AreDeadOf board (start board).boxes [] ×
     ((q : ℕ) → contains squares.items q ≡ true → contains (start board).boxes q ≡ true) ×
     ((members : Squares) × IsFrozen board squares.items members)
-IsTrueOf board Sound = IsLevel board × Undoomed board (start board)
+IsRemarkOnLevel board Sound = Undoomed board (start board)
+IsRemarkOnLevel board remark = ⊥
+
+-- the remark on a board with a fault: all players, if there is none or several; all boxes and goals, if there is no box or
+-- the numbers differ; a square where the player gets out, if the board is open. A board that is too large gets none
+abbrev pub IsRemarkOnFault : LevelFault → Board → Remark → Type 0
+IsRemarkOnFault NoPlayer board (Players squares) = squares.items ≡ places_from player_cell 0 board.cells
+IsRemarkOnFault TwoPlayers board (Players squares) = squares.items ≡ places_from player_cell 0 board.cells
+IsRemarkOnFault NoBox board (Unequal boxes goals) =
+    (boxes.items ≡ places_from box_cell 0 board.cells) × (goals.items ≡ places_from goal_cell 0 board.cells)
+IsRemarkOnFault (Counts box_number goal_number) board (Unequal boxes goals) =
+    (boxes.items ≡ places_from box_cell 0 board.cells) × (goals.items ≡ places_from goal_cell 0 board.cells)
+IsRemarkOnFault Open board (Exit q) = IsExit board q
+IsRemarkOnFault fault board remark = ⊥
+
+-- the remark on a board, as the board is judged
+abbrev pub IsRemarkOn : Result Board LevelFault → Board → Remark → Type 0
+IsRemarkOn (Ok level) board remark = IsRemarkOnLevel board remark
+IsRemarkOn (Err fault) board remark = IsRemarkOnFault fault board remark
 
 -- nothing was found
 abbrev pub is_sound : Remark → Bool
@@ -173,13 +196,14 @@ pub data Explains (bytes : List ℕ) (wanted : Option ℕ) : List Listed → Lis
       (places : List RowPlace) (excess : Excess) →
       Explains bytes wanted listing text sound → is_wanted wanted (suc (length listing)) ≡ true →
       (here : IsBoardAt bytes listed.first_line board places) → IsJudged board listed.board →
-      IsExcess here.lines listed.first_line excess →
+      listed.board ≡ Err (excess_fault excess) → IsExcess here.lines listed.first_line excess →
       Explains bytes wanted (listing ++ listed ∷ [])
       (text ++ check_line (suc (length listing)) listed ++ excess_words excess) false
   told : {listing : List Listed} {text : List ℕ} {sound : Bool} (listed : Listed) (board : Board)
       (places : List RowPlace) (remark : Remark) (picture : List ℕ) →
       Explains bytes wanted listing text sound → is_wanted wanted (suc (length listing)) ≡ true →
-      IsBoardAt bytes listed.first_line board places → IsJudged board listed.board → IsTrueOf board remark →
+      IsBoardAt bytes listed.first_line board places → IsJudged board listed.board →
+      IsRemarkOn listed.board board remark →
       (is_drawn remark wanted ≡ true → IsPicture listed.board board.cells picture) →
       Explains bytes wanted (listing ++ listed ∷ [])
       (text ++ level_text wanted (suc (length listing)) listed board places remark picture) (sound && is_sound remark)

@@ -28,17 +28,26 @@ pub(crate) fn mark_of(level: &Level, dead: &Dead, square: Square) -> u8
     }
 }
 
-/// The bytes of the squares of a level, in order.
+/// The bytes of the squares of a level, in order, given its dead squares.
 #[tactic(auto, using(crate::proofs::Maps::marks_all))]
+fn marks_by(alloc: Global, level: &Level, dead: &Dead) -> Result<Vec<u8>, AllocError>
+    requires { dead.now ≡ level.now }
+    ensures { IfOk result (λ marks. AreMarks level.now marks.items) }
+{
+    level.tell();
+    let mut marks = Vec::new(alloc);
+    for number in 0..level.squares() {
+        marks.push(mark_of(level, dead, Square(number as u16)))?;
+    }
+    Ok(marks)
+}
+
+/// The bytes of the squares of a level, in order.
 fn marks_of(alloc: Global, level: &Level) -> Result<Vec<u8>, AllocError>
     ensures { IfOk result (λ marks. AreMarks level.now marks.items) }
 {
     let dead = Dead::of(alloc, level)?;
-    let mut marks = Vec::new(alloc);
-    for number in 0..level.squares() {
-        marks.push(mark_of(level, &dead, Square(number as u16)))?;
-    }
-    Ok(marks)
+    marks_by(alloc, level, &dead)
 }
 
 /// A row without the spaces at its end.

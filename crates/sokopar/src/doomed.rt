@@ -1,9 +1,9 @@
 //! The remark on a lawful level.
 ghost use Rattle.std.specs.Prelude.{◌≡◌, ℕ, ◌<◌, [], true, length, IfOk, MatchOption};
-ghost use Rattle.doom.specs.Deadlocks.{IsDead, IsFrozen};
+ghost use Rattle.doom.specs.Deadlocks.{IsFrozen};
 ghost use Rattle.grid.specs.Squares.{Squares, contains};
 ghost use Rattle.grid.specs.States.{start_boxes};
-ghost use Rattle.sokopar.specs.Explaining.{IsTrueOf};
+ghost use Rattle.sokopar.specs.Explaining.{AreDeadOf, IsRemarkOnLevel};
 ghost use Rattle.sokopar.specs.inside.Explaining.{AreAmong, AreFrozen};
 
 use crate::remark::Remark;
@@ -15,10 +15,7 @@ use std::alloc::{AllocError, Global};
 
 /// Those of the boxes that are on dead squares.
 fn dead_boxes(alloc: Global, dead: &Dead, boxes: &[Square]) -> Result<Vec<Square>, AllocError>
-    ensures dead { IfOk result (λ found. (q : ℕ) → contains found.items q ≡ true →
-        (contains boxes.now q ≡ true) × IsDead dead.now q) }
-    ensures none { IfOk result (λ found. found.items ≡ [] → (q : ℕ) → contains boxes.now q ≡ true →
-        ¬ (IsDead dead.now q)) }
+    ensures { IfOk result (λ found. AreDeadOf dead.now boxes.now found.items) }
 {
     let mut found = Vec::new(alloc);
     for square in boxes {
@@ -81,13 +78,57 @@ fn frozen_part(
 {
     let mut scratch = Scratch::new(alloc, level)?;
     if !any_frozen(level, dead, boxes, &mut scratch) {
+        drop(scratch);
         return Ok(None);
     }
     if boxes.len() > MAX_BOXES {
+        drop(scratch);
         return Ok(Some(Vec::from_slice(alloc, boxes)?));
     }
-    let few = fewest_frozen(alloc, level, dead, boxes, &mut scratch)?;
-    Ok(Some(few))
+    let few = fewest_frozen(alloc, level, dead, boxes, &mut scratch);
+    drop(scratch);
+    Ok(Some(few?))
+}
+
+/// The remark on a lawful level with these boxes, none of which is on a dead square.
+fn remark_of_live(
+    alloc: Global,
+    level: &Level,
+    dead: &Dead,
+    boxes: &[Square],
+) -> Result<Remark, AllocError>
+    requires start { boxes.now ≡ start_boxes level.now }
+    requires dead_of_level { dead.now ≡ level.now }
+    requires live { AreDeadOf level.now boxes.now [] }
+    ensures { IfOk result (IsRemarkOnLevel level.now) }
+{
+    level.tell_start();
+    doomed_are_lost(level);
+    match frozen_part(alloc, level, dead, boxes)? {
+        Some(few) => Ok(Remark::Frozen(few)),
+        None => Ok(Remark::Sound),
+    }
+}
+
+/// The remark on a lawful level with these boxes, given its dead squares.
+fn remark_with(
+    alloc: Global,
+    level: &Level,
+    dead: &Dead,
+    boxes: &[Square],
+) -> Result<Remark, AllocError>
+    requires start { boxes.now ≡ start_boxes level.now }
+    requires dead_of_level { dead.now ≡ level.now }
+    ensures { IfOk result (IsRemarkOnLevel level.now) }
+{
+    level.tell_start();
+    doomed_are_lost(level);
+    let lost = dead_boxes(alloc, dead, boxes)?;
+    if !lost.is_empty() {
+        return Ok(Remark::DeadBoxes(lost));
+    }
+    drop(lost);
+    remark_of_live(alloc, level, dead, boxes)
 }
 
 /// The remark on a lawful level with these boxes.
@@ -97,18 +138,8 @@ pub(crate) fn remark_of_level(
     boxes: &[Square],
 ) -> Result<Remark, AllocError>
     requires { boxes.now ≡ start_boxes level.now }
-    ensures { IfOk result (λ remark. IsTrueOf level.now remark) }
+    ensures { IfOk result (IsRemarkOnLevel level.now) }
 {
-    level.tell();
-    level.tell_start();
-    doomed_are_lost(level);
     let dead = Dead::of(alloc, level)?;
-    let lost = dead_boxes(alloc, &dead, boxes)?;
-    if !lost.is_empty() {
-        return Ok(Remark::DeadBoxes(lost));
-    }
-    match frozen_part(alloc, level, &dead, boxes)? {
-        Some(few) => Ok(Remark::Frozen(few)),
-        None => Ok(Remark::Sound),
-    }
+    remark_with(alloc, level, &dead, boxes)
 }

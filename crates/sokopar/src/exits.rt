@@ -1,10 +1,10 @@
 //! Where the player gets out of a board.
-ghost use Rattle.std.specs.Prelude.{◌≡◌, ◌≤◌, ◌<◌, true, length, IfOk, IfSome, OnOk};
-ghost use Rattle.grid.specs.Board.{is_wall, next, player_cell};
-ghost use Rattle.grid.specs.Lawful.{InRoom};
-ghost use Rattle.grid.specs.Squares.{places_from};
+ghost use Rattle.std.specs.Prelude.{◌≡◌, ℕ, ◌+◌, ◌≤◌, ◌<◌, ◌∷◌, false, length, drop, slice_get, IfOk, MatchBool, OnOk};
+ghost use Rattle.grid.specs.Board.{is_wall, next, start_player};
+ghost use Rattle.grid.specs.Lawful.{IsOpen};
+ghost use Rattle.grid.specs.inside.Filling.{IsFilling, IsLook, IsMarked};
 ghost use Rattle.sokopar.specs.Explaining.{IsExit};
-ghost use Rattle.sokopar.specs.inside.Explaining.{AreBounded, AreInRoom, Looks, board_in};
+ghost use Rattle.sokopar.specs.inside.Explaining.{AreBounded, HasTurned, board_in};
 
 use grid::{Dir, Square};
 use std::alloc::{AllocError, Global};
@@ -42,46 +42,42 @@ fn is_wall(rows: &BoardRows, place: usize) -> bool
     rows.cells.get(place).map_or(true, |cell| cell.is_wall())
 }
 
-/// Adds a square to the pending ones, unless it is a wall or marked.
+/// Adds a square to the pending ones and marks it, unless it is a wall or marked.
 fn look(
     rows: &BoardRows,
     marks: &mut [bool],
     pending: &mut Vec<Square>,
     place: usize,
 ) -> Result<(), AllocError>
-    requires { length rows.now.cells.items ≤ 65535 }
-    ensures { OnOk result (Looks (board_in rows.now) place pending.old.items pending.new.items) }
+    requires bound { length rows.now.cells.items ≤ 65535 }
+    requires size { length marks.old ≡ length rows.now.cells.items }
+    requires inside { place < length rows.now.cells.items }
+    ensures { OnOk result (IsLook (board_in rows.now) place marks.old pending.old.items marks.new pending.new.items) }
 {
     if is_wall(rows, place) {
-        return Ok(());
-    }
-    if place >= rows.cells.len() {
-        return Ok(());
-    }
-    if place >= marks.len() {
         return Ok(());
     }
     if marks[place] {
         return Ok(());
     }
-    marks[place] = true;
     pending.push(Square(place as u16))?;
+    marks[place] = true;
     Ok(())
 }
 
-/// Looks at the squares next to a square of the room. Returns whether the grid ends beside it.
+/// Looks at the squares next to the pending square at place `turn`. Returns whether the grid ends beside it.
 fn look_round(
     rows: &BoardRows,
     marks: &mut [bool],
     pending: &mut Vec<Square>,
+    turn: usize,
     square: Square,
 ) -> Result<bool, AllocError>
     requires bounds { AreBounded rows.now }
-    requires inside { square < length rows.now.cells.items }
-    requires room { InRoom (board_in rows.now) square }
-    requires pending { AreInRoom (board_in rows.now) pending.old.items }
-    ensures pending { OnOk result (AreInRoom (board_in rows.now) pending.new.items) }
-    ensures exit { IfOk result (λ ends. ends ≡ true → IsExit (board_in rows.now) square) }
+    requires turn { turn + 1 ≤ length pending.old.items }
+    requires filling { IsFilling (board_in rows.now) marks.old (square ∷ drop (turn + 1) pending.old.items) }
+    ensures { IfOk result (λ ends. MatchBool ends (IsExit (board_in rows.now) square)
+        (HasTurned (board_in rows.now) (turn + 1) marks.old pending.old.items marks.new pending.new.items)) }
 {
     for dir in Dir::ALL {
         let place = next_to(rows, square, dir);
@@ -93,42 +89,63 @@ fn look_round(
     Ok(false)
 }
 
-/// The first of the pending squares beside which the grid ends; looks at the squares next to each.
-fn exit_from(alloc: Global, rows: &BoardRows, player: Square) -> Result<Option<Square>, AllocError>
-    requires bounds { AreBounded rows.now }
-    requires inside { player < length rows.now.cells.items }
-    requires room { InRoom (board_in rows.now) player }
-    ensures { IfOk result (λ exit. IfSome exit (λ q. IsExit (board_in rows.now) q)) }
+/// The pending square at a place, if there is one.
+fn pending_at(pending: &[Square], turn: usize) -> Option<Square>
+    ensures { result ≡ slice_get pending.now turn }
 {
-    let mut marks = vec![in alloc; false; rows.cells.len()]?;
-    let mut pending = vec![in alloc; player; 1]?;
-    for turn in 0..rows.cells.len() {
-        let Some(square) = pending.get(turn).copied() else {
-            break;
-        };
-        if look_round(rows, &mut marks, &mut pending, square)? {
-            return Ok(Some(square));
-        }
-    }
-    Ok(None)
+    pending.get(turn).copied()
 }
 
-/// A square at the edge of the grid that steps lead to from the first player, boxes ignored: the nearest. `None` if
-/// there is none.
-pub(crate) fn exit_of(
+/// The first of the pending squares beside which the grid ends; looks at the squares next to each.
+fn first_exit(
+    rows: &BoardRows,
+    marks: &mut [bool],
+    pending: &mut Vec<Square>,
+) -> Result<Square, AllocError>
+    requires bounds { AreBounded rows.now }
+    requires filling { IsFilling (board_in rows.now) marks.old pending.old.items }
+    requires open { IsOpen (board_in rows.now) }
+    ensures { IfOk result (IsExit (board_in rows.now)) }
+{
+    let mut turn = 0;
+    'turns: while let Some(square) = pending_at(pending.as_slice(), turn) {
+        let ends = look_round(rows, marks, pending, turn, square)?;
+        if ends {
+            return Ok(square);
+        }
+        turn += 1;
+    }
+    unreachable!()
+}
+
+/// `exit_of`, given a clear mark for each square.
+fn exit_by(
     alloc: Global,
     rows: &BoardRows,
-    players: &[Square],
-) -> Result<Option<Square>, AllocError>
+    marks: &mut [bool],
+    player: Square,
+) -> Result<Square, AllocError>
     requires bounds { AreBounded rows.now }
-    requires players { players.now ≡ places_from player_cell 0 rows.now.cells.items }
-    ensures { IfOk result (λ exit. IfSome exit (λ q. IsExit (board_in rows.now) q)) }
+    requires start { player ≡ start_player (board_in rows.now) }
+    requires floor { is_wall (board_in rows.now) player ≡ false }
+    requires open { IsOpen (board_in rows.now) }
+    requires size { length marks.old ≡ length rows.now.cells.items }
+    requires clear { (q : ℕ) → ¬ (IsMarked marks.old q) }
+    ensures { IfOk result (IsExit (board_in rows.now)) }
 {
-    let Some(player) = players.first().copied() else {
-        return Ok(None);
-    };
-    if player.0 as usize >= rows.cells.len() {
-        return Ok(None);
-    }
-    exit_from(alloc, rows, player)
+    let mut pending = vec![in alloc; player; 1]?;
+    marks[player.0 as usize] = true;
+    first_exit(rows, marks, &mut pending)
+}
+
+/// A square at the edge of the grid that steps lead to from the player of an open board, boxes ignored: the nearest.
+pub(crate) fn exit_of(alloc: Global, rows: &BoardRows, player: Square) -> Result<Square, AllocError>
+    requires bounds { AreBounded rows.now }
+    requires start { player ≡ start_player (board_in rows.now) }
+    requires floor { is_wall (board_in rows.now) player ≡ false }
+    requires open { IsOpen (board_in rows.now) }
+    ensures { IfOk result (IsExit (board_in rows.now)) }
+{
+    let mut marks = vec![in alloc; false; rows.cells.len()]?;
+    exit_by(alloc, rows, &mut marks, player)
 }

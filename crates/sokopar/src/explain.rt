@@ -1,8 +1,8 @@
 //! Explaining the levels of a collection: where and why each is faulty or cannot be solved.
 ghost use Rattle.std.specs.Prelude.{◌≡◌, ℕ, suc, ◌≤◌, ◌++◌, ◌∷◌, [], List, Option, length, IfOk, OnOk, true, false};
 ghost use Rattle.sokopar.specs.Entries.{listed_of};
-ghost use Rattle.sokopar.specs.Explaining.{IsExplainReport, IsTrueOf, excess_words, explained, is_drawn};
-ghost use Rattle.sokopar.specs.Explaining.{is_quiet, is_wanted};
+ghost use Rattle.sokopar.specs.Explaining.{Explains, IsExplainReport, IsRemarkOn, excess_words, explained};
+ghost use Rattle.sokopar.specs.Explaining.{is_drawn, is_quiet, is_wanted};
 ghost use Rattle.sokopar.specs.Listing.{Listed};
 ghost use Rattle.sokopar.specs.Report.{check_line, good_count};
 ghost use Rattle.sokopar.specs.declared.remark.Remark.{Remark};
@@ -108,11 +108,11 @@ fn remark_of(
 ) -> Result<Remark, AllocError>
     requires bounds { AreBounded rows.now }
     requires judged { IsJudged (board_in rows.now) board.now }
-    ensures { IfOk result (λ remark. IsTrueOf (board_in rows.now) remark) }
+    ensures { IfOk result (IsRemarkOn board.now (board_in rows.now)) }
 {
     match board {
         Ok(level) => {
-            let boxes = squares_with(alloc, Kind::Box, &rows.cells)?;
+            let boxes = squares_with(alloc, Kind::Box, rows)?;
             remark_of_level(alloc, level, boxes.as_slice())
         }
         Err(fault) => remark_of_fault(alloc, *fault, rows),
@@ -175,7 +175,7 @@ fn put_judged(
     requires bounds { AreBounded rows.now }
     requires judged { IsJudged (board_in rows.now) entry.board }
     ensures { (n : ℕ) → head.now ≡ check_line n (listed_of entry) →
-        OnOk result ((remark : Remark) × IsTrueOf (board_in rows.now) remark ×
+        OnOk result ((remark : Remark) × IsRemarkOn entry.board (board_in rows.now) remark ×
         Tells wanted n (listed_of entry) (board_in rows.now) rows.now.places.items remark page.old page.new) }
 {
     let listed = entry.into_entry(alloc)?;
@@ -193,6 +193,28 @@ fn put_large(page: &mut Page, head: &Text, excess: Excess) -> Result<(), AllocEr
     put_excess(&mut page.text, excess)?;
     page.sound = false;
     Ok(())
+}
+
+/// Appends what is written of a level that is wanted.
+fn put_level(
+    alloc: Global,
+    page: &mut Page,
+    number: usize,
+    source: BoardSource,
+    wanted: Option<u32>,
+) -> Result<(), AllocError>
+    requires { (found : Found) × IsSourceOf source found }
+    ensures { (bytes : List ℕ) (found : Found) (listing : List Listed) → number ≡ suc (length listing) →
+        IsBoardEntry source.entry found → HasSource bytes found source.rows → is_wanted wanted number ≡ true →
+        Explains bytes wanted listing page.old.text page.old.sound →
+        OnOk result (Explains bytes wanted (listing ++ listed_of source.entry ∷ []) page.new.text page.new.sound) }
+{
+    let BoardSource { entry, rows } = source;
+    let head = head_of(alloc, number, &entry)?;
+    match rows {
+        Ok(rows) => put_judged(alloc, page, &head, entry, &rows, wanted),
+        Err(excess) => put_large(page, &head, excess),
+    }
 }
 
 /// Appends what is written of the gap before a level, and of the level if it is wanted.
@@ -213,14 +235,10 @@ fn put_next(
     let shown = is_beside(wanted, number);
     put_gap(page, broken, source.entry.first_line, shown)?;
     if !is_wanted(wanted, number) {
+        drop(source);
         return Ok(());
     }
-    let BoardSource { entry, rows } = source;
-    let head = head_of(alloc, number, &entry)?;
-    match rows {
-        Ok(rows) => put_judged(alloc, page, &head, entry, &rows, wanted),
-        Err(excess) => put_large(page, &head, excess),
-    }
+    put_level(alloc, page, number, source, wanted)
 }
 
 /// The report of what was written.

@@ -31,6 +31,25 @@ fn byte_on(level: &Level, dead: &Dead, square: Square, cell: Cell) -> u8
     shown_byte(cell, mark_of(level, dead, square), dead.is_dead(square))
 }
 
+/// The bytes of the cells of a level, given its dead squares.
+fn bytes_by(
+    alloc: Global,
+    level: &Level,
+    dead: &Dead,
+    cells: &[Cell],
+) -> Result<Vec<u8>, AllocError>
+    requires dead { dead.now ≡ level.now }
+    requires bound { length cells.now ≤ 65535 }
+    requires cells { cells.now ≡ level.now.cells }
+    ensures { IfOk result (λ bytes. AreShown level.now bytes.items) }
+{
+    let mut bytes = Vec::new(alloc);
+    for (place, cell) in cells.iter().enumerate() {
+        bytes.push(byte_on(level, dead, Square(place as u16), *cell))?;
+    }
+    Ok(bytes)
+}
+
 /// The bytes of the cells of a level.
 fn bytes_on(alloc: Global, level: &Level, cells: &[Cell]) -> Result<Vec<u8>, AllocError>
     requires bound { length cells.now ≤ 65535 }
@@ -38,11 +57,7 @@ fn bytes_on(alloc: Global, level: &Level, cells: &[Cell]) -> Result<Vec<u8>, All
     ensures { IfOk result (λ bytes. AreShown level.now bytes.items) }
 {
     let dead = Dead::of(alloc, level)?;
-    let mut bytes = Vec::new(alloc);
-    for (place, cell) in cells.iter().enumerate() {
-        bytes.push(byte_on(level, &dead, Square(place as u16), *cell))?;
-    }
-    Ok(bytes)
+    bytes_by(alloc, level, &dead, cells)
 }
 
 /// The bytes of the cells of a faulty board.

@@ -1,9 +1,12 @@
 -- The parts of what `explain` writes that functions of their own find.
-use Rattle.std.specs.Prelude.{◌≡◌, ℕ, ◌<◌, ◌≤◌, ◌⊎◌, Bool, true, false, List, [], ◌∷◌, ◌++◌, length, Option, IfSome}
+use Rattle.std.specs.Prelude.{◌≡◌, ℕ, ◌≤◌, Bool, true, false, List, length, drop, Option, IfSome}
 use Rattle.grid.specs.declared.cell.Cell.{Cell}
-use Rattle.grid.specs.declared.limits.TheConstants.{MAX_COLS}
-use Rattle.grid.specs.Board.{Board, box_cell, goal_cell, is_wall, player_cell}
-use Rattle.grid.specs.Lawful.{InRoom}
+use Rattle.grid.specs.declared.fault.LevelFault.{LevelFault}
+use Rattle.grid.specs.declared.fault.LevelFault.TheVariants.{NoBox, Counts, Open}
+use Rattle.grid.specs.declared.limits.TheConstants.{MAX_ROWS, MAX_COLS}
+use Rattle.grid.specs.Board.{Board, box_cell, goal_cell, player_cell}
+use Rattle.grid.specs.Lawful.{row_count}
+use Rattle.grid.specs.inside.Filling.{IsFilling, work}
 use Rattle.grid.specs.Squares.{Squares, contains}
 use Rattle.doom.specs.Deadlocks.{IsFrozen}
 use Rattle.xsb.specs.Breaks.{IsBroken}
@@ -24,20 +27,30 @@ is_kind Goal = goal_cell
 abbrev pub board_in : BoardRows → Board
 board_in rows = record { cols = rows.cols; cells = rows.cells.items }
 
--- the board has columns, and no more of them, and no more cells, than the numbers of squares allow
+-- the board has columns, is none too large, and has no more cells than the numbers of squares allow
 pub record AreBounded (rows : BoardRows) : Type 0 where
   pub columns : 1 ≤ rows.cols
   pub wide : rows.cols ≤ MAX_COLS
+  pub tall : row_count (board_in rows) ≤ MAX_ROWS
   pub bound : length rows.cells.items ≤ 65535
 
--- the squares are of the player's room and in the grid
-abbrev pub AreInRoom : Board → Squares → Type 0
-AreInRoom board squares = (q : ℕ) → contains squares q ≡ true → InRoom board q × (q < length board.cells)
+-- the numbers of boxes and goals are at fault
+abbrev pub is_unequal : LevelFault → Bool
+is_unequal NoBox = true
+is_unequal (Counts boxes goals) = true
+is_unequal fault = false
 
--- a look at a square adds it to the pending ones, or not
-abbrev pub Looks : Board → ℕ → Squares → Squares → Type 0
-Looks board q old new = (new ≡ old) ⊎
-    ((is_wall board q ≡ false) × (q < length board.cells) × (new ≡ old ++ q ∷ []))
+-- the player gets out
+abbrev pub is_open : LevelFault → Bool
+is_open Open = true
+is_open fault = false
+
+-- after a look round from one square the pending squares from place `from` on are still to be looked round from, and no
+-- more of them and of unmarked squares are left
+pub record HasTurned (board : Board) (from : ℕ) (marks : List Bool) (pending : Squares) (new : List Bool)
+    (later : Squares) : Type 0 where
+  pub filling : IsFilling board new (drop from later)
+  pub less : work new (drop from later) ≤ work marks (drop from pending)
 
 -- each square of the one set is in the other
 abbrev pub AreAmong : Squares → Squares → Type 0

@@ -1,6 +1,7 @@
--- The squares so far are the dead ones among the boxes so far.
-use Rattle.sokopar.proofs.Remarks.{AreDeadOf}
+-- The squares so far are those of the boxes so far that are on dead squares.
+use Rattle.std.proofs.Common.{take}
+use Rattle.sokopar.specs.Explaining.{AreDeadOf}
 use Rattle.sokopar.proofs.doomed.dead_boxes.Given as goal
 
 abbrev pub invariant-loop-square : goal.invariant-loop-square
-invariant-loop-square l = AreDeadOf l.dead l.boxes l.found.items l.square-index
+invariant-loop-square l = AreDeadOf l.dead (take l.square-index l.boxes) l.found.items

@@ -1,7 +1,5 @@
 -- The line of the level, the sentences and the board are added.
-use Rattle.std.proofs.Common.{◌≡◌, ℕ, Bool, List, ◌++◌, ◌&&◌, refl, sym, ap, ◌∙◌}
-use Rattle.sokopar.specs.Listing.{Listed}
-use Rattle.sokopar.specs.Report.{check_line}
+use Rattle.std.proofs.Common.{Bool, ◌++◌, ◌&&◌, refl, sym, ap, ◌∙◌}
 use Rattle.sokopar.specs.inside.Explaining.{board_in}
 use Rattle.sokopar.proofs.Explanations.{tells-drawn, tells-nothing, tells-plain}
 use Rattle.sokopar.proofs.explain.put_found.Goals as goal

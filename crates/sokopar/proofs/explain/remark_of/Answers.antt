@@ -1,14 +1,24 @@
--- The board of the level is the one that was read.
-use Rattle.std.proofs.Common.{Result, IfOk, subst}
+-- The remark is on the board that was read, as it is judged.
+use Rattle.std.proofs.Common.{Result, IfOk, sym, subst}
 use Rattle.grid.specs.Board.{Board}
 use Rattle.grid.specs.declared.fault.LevelFault.{LevelFault}
 use Rattle.xsb.specs.Collection.{IsJudged}
-use Rattle.sokopar.specs.Explaining.{IsTrueOf}
+use Rattle.sokopar.specs.Explaining.{IsRemarkOn, IsRemarkOnLevel}
 use Rattle.sokopar.specs.inside.Explaining.{board_in}
 use Rattle.sokopar.proofs.explain.remark_of.Goals as goal
+
+pub remark_of_fault-requires-clause-fault : goal.remark_of_fault-requires-clause-fault
+remark_of_fault-requires-clause-fault c =
+    subst (λ (b : Result Board LevelFault). IsJudged (board_in c.args.rows.now) b) c.in-Err.is c.requires.judged
 
 pub returns-in_ok-boxes-in-Ok : goal.returns-in_ok-boxes-in-Ok
 returns-in_ok-boxes-in-Ok c =
     let board = board_in c.args.rows.now in
     let judged = subst (λ (b : Result Board LevelFault). IsJudged board b) c.in-Ok.is c.requires.judged in
-    subst (λ (b : Board). IfOk c.remark_of_level.result (λ remark. IsTrueOf b remark)) judged.0 c.remark_of_level.ensures
+    let remark = subst (λ (b : Board). IfOk c.remark_of_level.result (IsRemarkOnLevel b)) judged.0 c.remark_of_level.ensures in
+    subst (λ (b : Result Board LevelFault). IfOk c.remark_of_level.result (IsRemarkOn b board)) (sym c.in-Ok.is) remark
+
+pub returns-in-Err : goal.returns-in-Err
+returns-in-Err c =
+    let board = board_in c.args.rows.now in
+    subst (λ (b : Result Board LevelFault). IfOk c.remark_of_fault.result (IsRemarkOn b board)) (sym c.in-Err.is) c.remark_of_fault.ensures

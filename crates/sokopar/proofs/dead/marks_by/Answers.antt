@@ -1,8 +1,9 @@
 -- The next square has its mark too.
-use Rattle.std.proofs.Common.{rules, ◌≡◌, ◌∷◌, [], ◌++◌, sym, subst, ℕ, List}
+use Rattle.std.proofs.Common.{rules, ◌≡◌, ◌∷◌, [], ◌++◌, sym, subst, ℕ, List, arith}
+use Rattle.grid.proofs.lemmas.Levels.{level_squares}
 use Rattle.sokopar.specs.DeadMap.{IsMark}
 use Rattle.sokopar.proofs.Maps.{HaveBytes, bytes_grow}
-use Rattle.sokopar.proofs.dead.marks_of.Goals as goal
+use Rattle.sokopar.proofs.dead.marks_by.Goals as goal
 
 pub loop-number-preserved : goal.loop-number-preserved
 loop-number-preserved c =
@@ -16,3 +17,8 @@ loop-number-preserved c =
       count = search rules;
       marks = subst Q (sym grown) (bytes_grow (IsMark level) marks c.mark_of.result c.loop-number.invariant.marks next);
     }
+
+pub overflow_cast-number : goal.overflow_cast-number
+overflow_cast-number c =
+    let few = level_squares c.args.level.now c.tell.ensures in
+    omega (arith, few, c.loop-number-test.true, c.squares-number-end.ensures)

@@ -1,11 +1,10 @@
 -- The next cell has its byte too.
 use Rattle.std.proofs.Common.{rules, ◌≡◌, ℕ, List, [], ◌∷◌, ◌++◌, get_or, sym, subst}
-use Rattle.grid.specs.declared.cell.Cell.{Cell}
 use Rattle.grid.specs.declared.cell.Cell.TheVariants.{Wall}
 use Rattle.sokopar.specs.Explaining.{IsShown}
 use Rattle.sokopar.proofs.Maps.{HaveBytes, bytes_grow}
 use Rattle.sokopar.proofs.Pictures.{all_shown}
-use Rattle.sokopar.proofs.picture.bytes_on.Goals as goal
+use Rattle.sokopar.proofs.picture.bytes_by.Goals as goal
 
 pub loop-place-preserved : goal.loop-place-preserved
 loop-place-preserved c =

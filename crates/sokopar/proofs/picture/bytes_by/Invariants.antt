@@ -1,9 +1,9 @@
 -- Each cell so far has its byte.
-use Rattle.std.proofs.Common.{◌≡◌, ℕ, length, get_or}
+use Rattle.std.proofs.Common.{◌≡◌, length, get_or}
 use Rattle.grid.specs.declared.cell.Cell.TheVariants.{Wall}
 use Rattle.sokopar.specs.Explaining.{IsShown}
 use Rattle.sokopar.proofs.Maps.{HaveBytes}
-use Rattle.sokopar.proofs.picture.bytes_on.Given as goal
+use Rattle.sokopar.proofs.picture.bytes_by.Given as goal
 
 abbrev pub invariant-loop-place : goal.invariant-loop-place
 invariant-loop-place l = record {

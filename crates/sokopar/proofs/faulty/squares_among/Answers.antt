@@ -3,8 +3,8 @@ use Rattle.std.proofs.Common.{rules, ◌≡◌, ℕ, List, [], ◌∷◌, ◌++�
 use Rattle.grid.proofs.lemmas.Places.{places_more_yes, places_more_no}
 use Rattle.grid.specs.declared.cell.Cell.TheVariants.{Wall}
 use Rattle.sokopar.specs.inside.Explaining.{is_kind}
-use Rattle.sokopar.proofs.faulty.squares_with.Goals as goal
-use Rattle.sokopar.proofs.faulty.squares_with.Goals.{then-is_kind+in_ok-push, else-is_kind}
+use Rattle.sokopar.proofs.faulty.squares_among.Goals as goal
+use Rattle.sokopar.proofs.faulty.squares_among.Goals.{then-is_kind+in_ok-push, else-is_kind}
 
 pub loop-place-preserved : goal.loop-place-preserved
 loop-place-preserved c =

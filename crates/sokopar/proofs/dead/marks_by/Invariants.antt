@@ -2,7 +2,7 @@
 use Rattle.std.proofs.Common.{◌≡◌, length}
 use Rattle.sokopar.specs.DeadMap.{IsMark}
 use Rattle.sokopar.proofs.Maps.{HaveBytes}
-use Rattle.sokopar.proofs.dead.marks_of.Given as goal
+use Rattle.sokopar.proofs.dead.marks_by.Given as goal
 
 abbrev pub invariant-loop-number : goal.invariant-loop-number
 invariant-loop-number l = record {
