@@ -1,6 +1,7 @@
 # make         proves the program and builds it at target/sokopar; what the prover says is kept in target/build.log
 # make install builds it and copies it to PREFIX/bin, with its man page and completions to PREFIX/share
 # make quick   builds target/quick/sokopar from the program's text alone, in two or three minutes, with nothing proved
+# make install-quick   does so, and copies that program as `make install` does
 # make demo    runs the proved program on the collections of levels/, or the unproved one where no proved one is built
 # make test    checks what documents cite, proves everything, tries the must-fail edits and runs the tests (`rt ci`),
 #              and then tests the built program as a process
@@ -12,25 +13,36 @@ PREFIX ?= /usr/local
 SHARE = $(DESTDIR)$(PREFIX)/share
 SOURCES = $(shell find crates -name out -prune -o -name '*.rt' -print)
 
-.PHONY: all install quick demo test check bench toolchain needs
+.PHONY: all install quick install-quick demo test check bench toolchain needs
 
 all: toolchain
-	@RT=$(RT) build/all
+	@RT=$(RT) exec build/all
 
 install: all
-	@install -D -m 755 target/sokopar $(DESTDIR)$(PREFIX)/bin/sokopar
-	@install -D -m 644 share/sokopar.1 $(SHARE)/man/man1/sokopar.1
-	@install -D -m 644 share/sokopar.bash $(SHARE)/bash-completion/completions/sokopar
-	@install -D -m 644 share/_sokopar $(SHARE)/zsh/site-functions/_sokopar
-	@install -D -m 644 share/sokopar.fish $(SHARE)/fish/vendor_completions.d/sokopar.fish
-	@echo "$(DESTDIR)$(PREFIX)/bin/sokopar; its man page and completions are in $(SHARE)"
+	@$(call copy,target/sokopar)
 
 quick: target/quick/sokopar
-	@echo 'PATH=$$PWD/target/quick:$$PATH'
+	@echo "It is not proved. To use it in this shell:"
+	@echo "    export PATH='$(CURDIR)/target/quick':\"\$$PATH\""
+	@echo "    sokopar check '$(CURDIR)/levels/first-steps.xsb'"
+
+install-quick: target/quick/sokopar
+	@$(call copy,target/quick/sokopar)
+	@echo "This program is not proved; \`make install\` proves it first."
+
+# Copies a program, its man page and its completions
+define copy
+install -D -m 755 $(1) "$(DESTDIR)$(PREFIX)/bin/sokopar"
+install -D -m 644 share/sokopar.1 "$(SHARE)/man/man1/sokopar.1"
+install -D -m 644 share/sokopar.bash "$(SHARE)/bash-completion/completions/sokopar"
+install -D -m 644 share/_sokopar "$(SHARE)/zsh/site-functions/_sokopar"
+install -D -m 644 share/sokopar.fish "$(SHARE)/fish/vendor_completions.d/sokopar.fish"
+echo "$(DESTDIR)$(PREFIX)/bin/sokopar; its man page and completions are in $(SHARE)"
+endef
 
 target/quick/sokopar: $(SOURCES) crates.txt build/quick | toolchain
 	@echo "$@: two or three minutes of compiling, with nothing proved"
-	@RT=$(RT) build/quick cli $@
+	@RT=$(RT) exec build/quick cli $@
 
 demo:
 	@[ -x target/sokopar ] || $(MAKE) --no-print-directory target/quick/sokopar

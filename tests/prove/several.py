@@ -55,7 +55,8 @@ def line_fault(room, command, number, bound, found):
     With one less the search has ended, or this line was its last."""
     before, is_open = bound_of(room.run(command, "--limit", found - 1, level=number)[1], found - 1)
     after, _ = bound_of(room.run(command, "--limit", found, level=number)[1], found)
-    is_right = before is not None and after is not None and (before <= bound if is_open else before == bound) and bound <= after
+    is_right = before is not None and after is not None and bound <= after
+    is_right = is_right and (before <= bound if is_open else before == bound)
     return None if is_right else f"at least {before} with {found - 1} positions, {after} with {found}"
 
 
