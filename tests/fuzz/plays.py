@@ -51,3 +51,22 @@ def least(board, most, cap=None):
                 heapq.heappush(waiting,
                                (play, number, after, ahead, text + (letter if pushed is None else letter.upper())))
     return None
+
+
+def with_detours(board, text, times):
+    """A solution with two more pushes, this many times: somewhere a box is pushed to and fro. None if no box can be."""
+    boxes, player, states = frozenset(board.boxes), board.player, []
+    for letter in text:
+        states.append((boxes, player))
+        _, boxes, player, _ = next(it for it in steps(board, boxes, player) if it[0] == letter.lower())
+    for at, start in enumerate(states):
+        paths, queue = {(*start, 0): ""}, [(*start, 0)]
+        for boxes, player, pushes in queue:
+            for letter, after, ahead, pushed in steps(board, boxes, player):
+                state = (after, ahead, pushes + (pushed is not None))
+                if state not in paths and state[2] <= 2:
+                    paths[state] = paths[boxes, player, pushes] + (letter if pushed is None else letter.upper())
+                    queue.append(state)
+        if (*start, 2) in paths:
+            return text[:at] + paths[(*start, 2)] * times + text[at:]
+    return None
