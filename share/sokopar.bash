@@ -11,16 +11,18 @@ _sokopar() {
         solve) options="--workers --locks --limit --max-pushes --lurd --help" ;;
         best) options="--from --to --workers --limit --max-pushes --moves --table --lurd --progress --help" ;;
         prove) options="--solutions --from --to --workers --limit --moves --table --lurd --progress --help" ;;
+        help) options="check explain show dead replay solve best prove"; compopt +o default ;;
         *) options= ;;
     esac
     if [ "$COMP_CWORD" = 1 ]; then
-        options="check explain show dead replay solve best prove --help --version"
+        options="check explain show dead replay solve best prove help --help --version"
         compopt +o default
     fi
     case ${COMP_WORDS[COMP_CWORD - 1]} in
-        --workers | --locks | --limit | --max-pushes | --from | --to | --solutions) compopt +o default; return ;; # a number
+        --workers | --locks | --limit | --max-pushes | --from | --to) compopt +o default; return ;; # a number
+        --solutions) compopt -o filenames; mapfile -t COMPREPLY < <(compgen -d -- "$word"); return ;;
     esac
-    if [ "$COMP_CWORD" = 1 ] || [[ $word == -* ]]; then
+    if [ "$COMP_CWORD" = 1 ] || [[ $word == -* || ${COMP_WORDS[1]} == help ]]; then
         mapfile -t COMPREPLY < <(compgen -W "$options" -- "$word")
     fi
 }

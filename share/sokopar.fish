@@ -39,7 +39,7 @@ complete -c sokopar -n '__fish_seen_subcommand_from best' -l progress -d 'Shows 
 complete -c sokopar -n '__fish_seen_subcommand_from best' -s h -l help -d 'Print help'
 complete -c sokopar -n __fish_use_subcommand -a prove -d 'Proves that a solution has the fewest pushes'
 complete -c sokopar -n '__fish_seen_subcommand_from prove' -F
-complete -c sokopar -n '__fish_seen_subcommand_from prove' -l solutions -x -d 'Without N and SOLUTION: all N.lurd of a folder'
+complete -c sokopar -n '__fish_seen_subcommand_from prove' -l solutions -x -a '(__fish_complete_directories)' -d 'Without N and SOLUTION: all N.lurd of a folder'
 complete -c sokopar -n '__fish_seen_subcommand_from prove' -l from -x -d 'Without N: the first level'
 complete -c sokopar -n '__fish_seen_subcommand_from prove' -l to -x -d 'Without N: the last level'
 complete -c sokopar -n '__fish_seen_subcommand_from prove' -l workers -x -d 'Number of threads [default: 1]'
@@ -49,3 +49,5 @@ complete -c sokopar -n '__fish_seen_subcommand_from prove' -l table -d 'Without 
 complete -c sokopar -n '__fish_seen_subcommand_from prove' -l lurd -d 'Prints only the solution, without the first line'
 complete -c sokopar -n '__fish_seen_subcommand_from prove' -l progress -d 'Shows bounds and positions on standard error'
 complete -c sokopar -n '__fish_seen_subcommand_from prove' -s h -l help -d 'Print help'
+complete -c sokopar -n __fish_use_subcommand -a help -d 'Prints the help of a command'
+complete -c sokopar -n '__fish_seen_subcommand_from help' -a 'check explain show dead replay solve best prove'

@@ -1,5 +1,5 @@
-"""The recipes that keep something: each is interrupted at three moments, killed, and run on a full device, and then runs
-once more. Then it has each row once, as a run that nothing disturbs."""
+"""The recipes that keep something: each is interrupted at three moments, killed, and run on a full device, and then
+runs once more. Then it has each row once, as a run that nothing disturbs."""
 import contextlib
 import glob
 import os
