@@ -116,13 +116,18 @@ def bounds(bench):
 
 
 def telling(bench):
-    """`explain` within the stated memory, which depends on the length of its report."""
+    """`explain` within the stated memory, which depends on the length of its report, and this within its bound."""
     for name, file in (*worst.collections(), *((name, worst.filled(part)) for name, part in worst.TOLD.items())):
         words = ["explain", bench.file(file)]
         report = bench.run([bench.program, *words])
         most = worst.FIXED + worst.A_BYTE * len(file) + int(worst.A_BYTE_TOLD * len(report[1]))
         fault = None if within(bench, words, most >> 10) == report else f"another report within {most} bytes"
         yield f"explain of {name}, {len(file)} bytes, within {most} bytes", fault
+        is_long = len(report[1]) > worst.TOLD_MORE + worst.TOLD_A_BYTE * len(file)
+        yield f"explain of {name}, {len(file)} bytes", f"{len(report[1])} bytes of report" if is_long else None
+    report = bench.run([bench.program, "explain", bench.file(worst.TOLD["boxes in counts"].strip()), "1"])
+    is_long = len(report[1]) > worst.TOLD_MORE + worst.TOLD_A_BYTE * 5
+    yield "explain of one board", f"{len(report[1])} bytes of report" if is_long else None
 
 
 def memory_stated(pattern):

@@ -2,10 +2,12 @@
 table)."""
 
 # the bytes that a run of any command except `solve`, `best` and `prove` takes at most: FIXED, and A_BYTE for each byte
-# of its files; and `explain` A_BYTE_TOLD more for each byte of its report
+# of its files; and `explain` A_BYTE_TOLD more for each byte of its report, which has at most TOLD_MORE bytes and
+# TOLD_A_BYTE for each byte of the file
 FIXED = 8 << 20
 A_BYTE = 20
 A_BYTE_TOLD = 2.25
+TOLD_MORE, TOLD_A_BYTE = 2048, 320
 
 SIZE = 1 << 20
 MOST = 1 << 24
@@ -33,7 +35,7 @@ PARTS = {
 
 # those of which `explain` says most
 TOLD = {
-    "boxes in counts": b"#@20$19.\n\n",
+    "boxes in counts": b"#+99*\n\n",
     "open boards of many cells": b"#@$.|" + b"255#|" * 250 + b"\n\n",
     "broken rows between boards": b"#\n#\t\n",
 }
