@@ -262,9 +262,10 @@ and a line for each level, with a tab between two columns, and no totals.";
 
 /// The lines on standard error, in the help of `best` and `prove`.
 const PROGRESS: &str = "\
-With --progress, lines on standard error show how far a search is. Each states
-what is proved at that moment:
-  level N: at least K pushes, Q positions";
+With --progress, lines on standard error show how far a search is:
+  level N: at least K pushes, Q positions
+No solution of level N has fewer than K pushes, and the search has found Q
+positions. These lines are tested, but not proved.";
 
 /// How `best` compares with `solve`, its memory, and examples, in the help of `best`.
 const BEST: &str = "\
