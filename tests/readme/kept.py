@@ -3,7 +3,6 @@ runs once more. Then it has each row once, as a run that nothing disturbs."""
 import contextlib
 import glob
 import os
-import resource
 import shutil
 import signal
 import subprocess
@@ -22,6 +21,12 @@ import trials
 # rooms of bench/dense.xsb, each of which takes a part of a second
 ROOMS = (3, 6, 13, 21, 9, 12)
 SECONDS = 600
+# runs a command whose files get no more bytes than the first argument says; a write beyond them fails
+LIMITED = """import os, resource, signal, sys
+resource.setrlimit(resource.RLIMIT_FSIZE, (int(sys.argv[1]), int(sys.argv[1])))
+signal.signal(signal.SIGXFSZ, signal.SIG_IGN)
+os.execvp(sys.argv[2], sys.argv[2:])
+"""
 # the sections whose recipes keep something: the files that they keep, how many rows there are when a signal comes, and
 # how many bytes fit on the full device: a log of one row and a part of the next; otherwise nothing after `try`
 SECTIONS = {
@@ -72,14 +77,10 @@ class Kept:
 
     def start(self, script, most=None):
         """Starts a script, in a group of processes of its own. No file gets more than `most` bytes."""
-
-        def full():
-            resource.setrlimit(resource.RLIMIT_FSIZE, (most, most))
-            signal.signal(signal.SIGXFSZ, signal.SIG_IGN)
-
+        limited = [sys.executable, "-c", LIMITED, str(most)] if most else []
         ends = {"stdin": subprocess.DEVNULL, "stdout": subprocess.DEVNULL, "stderr": subprocess.DEVNULL}
-        return subprocess.Popen(["bash", "-c", script], cwd=self.work, env=self.env, start_new_session=True,
-                                restore_signals=most is None, preexec_fn=full if most else None, **ends)
+        return subprocess.Popen([*limited, "bash", "-c", script], cwd=self.work, env=self.env, start_new_session=True,
+                                **ends)
 
     def files(self):
         """What is kept: the content of each file."""
