@@ -6,5 +6,6 @@ pub mod Ends
 pub mod Events
 pub mod Handing
 pub mod Iterations
+pub mod Known
 pub mod Sharing
 pub mod States

@@ -8,6 +8,7 @@ ghost use Rattle.crew.specs.inside.Events.{DrawsUntil, MayGoOn};
 
 use crate::end::End;
 use crate::gate::Gate;
+use crate::known::LockedBook;
 use crate::shared::{Shared, Worker};
 use crate::worker::draw;
 use area::Scratch;
@@ -54,8 +55,8 @@ fn batch_size(left: u64, parcels: usize) -> usize
 /// Appends parcels to fill later, as many as pay in the layer and as there is capacity for. They are made here by
 /// value, which takes a large stack frame.
 #[inline(never)]
-pub(crate) fn append_parcels<'a>(
-    shared: &Shared<'_, 'a>,
+pub(crate) fn append_parcels<'a, B: LockedBook>(
+    shared: &Shared<'_, 'a, B>,
     rank: u64,
     scratch: &mut Scratch,
     parcels: &mut Vec<Parcel<'a>>,
@@ -76,8 +77,8 @@ pub(crate) fn append_parcels<'a>(
 /// Draws the ranks of a batch one directly after the other, and then makes the first parcels theirs. It returns their
 /// number, which is 0 only if no rank is left. It draws first, so that the word from which all workers draw changes
 /// processors once for the batch.
-pub(crate) fn draw_batch<'a, R: Wait, G: Gate>(
-    worker: &Worker<'_, '_, '_, 'a, R, G>,
+pub(crate) fn draw_batch<'a, R: Wait, G: Gate, B: LockedBook>(
+    worker: &Worker<'_, '_, '_, 'a, R, G, B>,
     drawer: &mut Drawer,
     scratch: &mut Scratch,
     nth: &mut u64,
@@ -108,8 +109,8 @@ pub(crate) fn draw_batch<'a, R: Wait, G: Gate>(
 }
 
 // Draws ranks into a slice until it is full or no rank is left. It returns their number.
-fn draw_ranks<R: Wait, G: Gate>(
-    worker: &Worker<'_, '_, '_, '_, R, G>,
+fn draw_ranks<R: Wait, G: Gate, B: LockedBook>(
+    worker: &Worker<'_, '_, '_, '_, R, G, B>,
     drawer: &mut Drawer,
     nth: &mut u64,
     ranks: &mut [u64],
@@ -138,8 +139,8 @@ fn draw_ranks<R: Wait, G: Gate>(
 }
 
 /// Makes the first parcels those of the ranks, in order.
-pub(crate) fn expand_each<'a>(
-    shared: &Shared<'_, 'a>,
+pub(crate) fn expand_each<'a, B: LockedBook>(
+    shared: &Shared<'_, 'a, B>,
     ranks: &[u64],
     scratch: &mut Scratch,
     parcels: &mut [Parcel<'a>],
@@ -156,8 +157,8 @@ pub(crate) fn expand_each<'a>(
 }
 
 // Fills a parcel with the successors of a rank, and deals them to the shares of the books.
-fn expand_into<'a>(
-    shared: &Shared<'_, 'a>,
+fn expand_into<'a, B: LockedBook>(
+    shared: &Shared<'_, 'a, B>,
     rank: u64,
     scratch: &mut Scratch,
     parcel: &mut Parcel<'a>,

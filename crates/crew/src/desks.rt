@@ -5,6 +5,7 @@ ghost use Rattle.crew.specs.inside.Desks.{AreRoomy, HaveDrawers};
 
 use crate::batch::most_of_one;
 use crate::gate::Gate;
+use crate::known::LockedBook;
 use crate::shared::Shared;
 use crate::workers::work_all;
 use area::Scratch;
@@ -67,10 +68,10 @@ impl<'a> Desks<'a> {
     }
 
     /// Lets the workers at these desks work on a layer, and waits until all of them have ended.
-    pub(crate) fn work<R: Threads + Wait + Sync, G: Gate + Sync>(
+    pub(crate) fn work<R: Threads + Wait + Sync, G: Gate + Sync, B: LockedBook + Send>(
         &mut self,
         rt: &R,
-        shared: &Shared<'_, 'a>,
+        shared: &Shared<'_, 'a, B>,
         gate: &G,
         drawer: Drawer,
     )
@@ -120,10 +121,10 @@ fn append_desk<'a>(
 
 // Gives drawers to at most as many workers as the layer has ranks, lets these work, and waits until all of them have
 // ended. One more would draw no rank, and its thread would start for nothing.
-fn work_first<'a, R: Threads + Wait + Sync, G: Gate + Sync>(
+fn work_first<'a, R: Threads + Wait + Sync, G: Gate + Sync, B: LockedBook + Send>(
     rt: &R,
     desks: &mut [Desk<'a>],
-    shared: &Shared<'_, 'a>,
+    shared: &Shared<'_, 'a, B>,
     gate: &G,
     drawer: Drawer,
 )

@@ -51,7 +51,8 @@ pub(crate) fn draw_rank(
     }
 }
 
-/// Hands a parcel of the layer back to a book, and adds the book's growth to the shared number of positions.
+/// Hands a parcel of the layer back to a book of its level, and adds the book's growth to the shared number of
+/// positions.
 pub(crate) fn hand_in(
     book: &mut Book,
     layer: &Layer,
@@ -60,7 +61,8 @@ pub(crate) fn hand_in(
     worker: u8,
     parcel: &Parcel<'_>,
 ) -> Result<Event, End>
-    requires { IsOfLayer layer.now parcel.now }
+    requires parcel { IsOfLayer layer.now parcel.now }
+    requires level { book.old.level ≡ layer.now.level }
     ensures handed { HandsBack layer.now workers worker parcel.now book.old result book.new }
     ensures lawful { IsLawfulBook book.old }
 {
@@ -72,7 +74,7 @@ pub(crate) fn hand_in(
         return Err(End::Foreign);
     }
     let before = book.positions_at_least();
-    let handed = book.hand_back(worker, parcel);
+    let handed = book.hand_back_own(worker, parcel);
     tell_growth(held, before, book.positions_at_least());
     match handed {
         Ok(()) => Ok(Event {

@@ -9,16 +9,17 @@ ghost use Rattle.crew.specs.inside.Events.{IsTold, MayGoOn, EndsAtOnce, IsCutOff
 ghost use Rattle.crew.specs.inside.Handing.{HandsBack, WasHandedBack};
 
 use crate::end::End;
-use crate::event::{Event, hand_in};
+use crate::event::Event;
 use crate::gate::Gate;
+use crate::known::LockedBook;
 use crate::locking::with_lock;
 use crate::shared::{Shared, Worker};
-use layers::{Book, Parcel};
+use layers::Parcel;
 use std::sync::{Mutex, Wait};
 
 // Hands the parcels of a batch back to each of the books in order.
-pub(crate) fn hand_batch<R: Wait, G: Gate>(
-    worker: &Worker<'_, '_, '_, '_, R, G>,
+pub(crate) fn hand_batch<R: Wait, G: Gate, B: LockedBook>(
+    worker: &Worker<'_, '_, '_, '_, R, G, B>,
     batch: &[Parcel<'_>],
     nth: &mut u64,
 ) -> Result<(), End>
@@ -39,9 +40,9 @@ pub(crate) fn hand_batch<R: Wait, G: Gate>(
 }
 
 // Hands the parcels of a batch back to one book, in order.
-fn hand_batch_to<R: Wait, G: Gate>(
-    worker: &Worker<'_, '_, '_, '_, R, G>,
-    book: &Mutex<Book>,
+fn hand_batch_to<R: Wait, G: Gate, B: LockedBook>(
+    worker: &Worker<'_, '_, '_, '_, R, G, B>,
+    book: &Mutex<B>,
     batch: &[Parcel<'_>],
     nth: &mut u64,
 ) -> Result<(), End>
@@ -61,9 +62,9 @@ fn hand_batch_to<R: Wait, G: Gate>(
 }
 
 // Hands a parcel back to the book behind a lock, and then passes the gate.
-fn hand_over<R: Wait, G: Gate>(
-    worker: &Worker<'_, '_, '_, '_, R, G>,
-    book: &Mutex<Book>,
+fn hand_over<R: Wait, G: Gate, B: LockedBook>(
+    worker: &Worker<'_, '_, '_, '_, R, G, B>,
+    book: &Mutex<B>,
     parcel: &Parcel<'_>,
     nth: &mut u64,
 ) -> Result<(), End>
@@ -82,11 +83,11 @@ fn hand_over<R: Wait, G: Gate>(
 }
 
 // Hands a parcel of the layer back to the book behind a lock. It knows no gate, so none is called under the lock.
-fn hand_to<R: Wait>(
+fn hand_to<R: Wait, B: LockedBook>(
     rt: &R,
-    shared: &Shared<'_, '_>,
+    shared: &Shared<'_, '_, B>,
     worker: u8,
-    book: &Mutex<Book>,
+    book: &Mutex<B>,
     parcel: &Parcel<'_>,
 ) -> Result<Event, End>
     requires { IsOfLayer shared.now.layer parcel.now }
@@ -100,11 +101,12 @@ fn hand_to<R: Wait>(
         shared,
         worker,
         book,
-        &|book: &mut Book|
-            requires { IsOfLayer layer.now parcel.now }
-            ensures handed { HandsBack layer.entry.now workers worker parcel.entry.now book.entry.now result
-                book.exit.now }
-            ensures lawful { IsLawfulBook book.entry.now }
-        { hand_in(book, layer, workers, held, worker, parcel) },
+        &|book: &mut B|
+            requires parcel { IsOfLayer layer.now parcel.now }
+            requires takes { B.takes layer.now.level }
+            ensures handed { HandsBack layer.entry.now workers worker parcel.entry.now (B.book book.entry.now) result
+                (B.book book.exit.now) }
+            ensures lawful { IsLawfulBook (B.book book.entry.now) }
+        { book.hand_in(layer, workers, held, worker, parcel) },
     )
 }

@@ -1,8 +1,9 @@
 //! The shared number of positions of all books. No contract depends on it: it only ends the workers, and the caller
 //! then counts.
-ghost use Rattle.std.specs.Prelude.{true};
+ghost use Rattle.std.specs.Prelude.{◌≡◌, true};
 
 use crate::gate::Gate;
+use layers::Book;
 use std::sync::atomic::{AtomicU64, Ordering};
 
 // A worker reads the number after one in this many events, which is about the number of events of a batch.
@@ -32,4 +33,15 @@ pub(crate) fn tell_growth(held: &AtomicU64, before: u64, after: u64) {
     if before < after {
         held.fetch_add(after - before, Ordering::Relaxed);
     }
+}
+
+/// Enters the pending successors of a book, unless they are fewer than `least`, and adds the growth to the shared
+/// number of positions. It returns whether it entered them. Contracts see the same book after it.
+pub(crate) fn enter_into(book: &mut Book, held: &AtomicU64, least: usize) -> bool
+    ensures { book.new ≡ book.old }
+{
+    let before = book.positions_at_least();
+    let entered = book.enter_pending(least);
+    tell_growth(held, before, book.positions_at_least());
+    entered
 }

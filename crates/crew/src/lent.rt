@@ -4,23 +4,26 @@ ghost use Rattle.std.specs.Bool.{MatchBool};
 ghost use Rattle.claims.specs.Hands.{newcomer};
 ghost use Rattle.crew.specs.Configured.{IsWithinLimits};
 ghost use Rattle.crew.specs.Lending.{ComesBack, ComeBack};
+ghost use Rattle.crew.specs.inside.Known.{AreOf};
 
 use crate::config::Config;
 use crate::desks::Desks;
 use crate::gate::Gate;
 use crate::held::Within;
+use crate::known::{KnownBook, OneProblem};
 use crate::settings::Settings;
 use crate::shared::Shared;
 use claims::{Drawer, Ledger};
 use layers::{Book, Layer};
 use std::alloc::{AllocError, Global};
+use std::marker::Brand;
 use std::sync::atomic::AtomicU64;
 use std::sync::{Mutex, Wait};
 use std::thread::Threads;
 
-// Lets the workers at the desks work on a layer with the books, which hold `positions` positions together, and returns
-// what is behind the locks once all workers have ended, each soon after the books hold more than the limit. Fails only
-// if out of memory.
+// Lets the workers at the desks work on a layer with the books, which are of its level and hold `positions` positions
+// together, and returns what is behind the locks once all workers have ended, each soon after the books hold more than
+// the limit. Fails only if out of memory.
 pub(crate) fn lend<'a, R: Threads + Wait + Sync, G: Gate + Sync>(
     rt: &R,
     settings: &Settings<'_, G>,
@@ -31,12 +34,31 @@ pub(crate) fn lend<'a, R: Threads + Wait + Sync, G: Gate + Sync>(
 ) -> Result<Vec<Book>, AllocError>
     requires few { length layer.now.places ≤ settings.now.config.limit }
     requires desks { desks.old ≡ layer.now.level }
+    requires books { AreOf layer.now.level books.items }
+    ensures desks { desks.new ≡ desks.old }
+{
+    lend_known::<R, G, Brand>(rt, settings, books, layer, desks, positions)
+}
+
+// `lend` where the problem of `K` is the layer's.
+fn lend_known<'a, R: Threads + Wait + Sync, G: Gate + Sync, K: OneProblem + Send>(
+    rt: &R,
+    settings: &Settings<'_, G>,
+    books: Vec<Book>,
+    layer: &Layer,
+    desks: &mut Desks<'a>,
+    positions: u64,
+) -> Result<Vec<Book>, AllocError>
+    requires few { length layer.now.places ≤ settings.now.config.limit }
+    requires desks { desks.old ≡ layer.now.level }
+    requires books { AreOf layer.now.level books.items }
+    requires problem { K.problem ≡ layer.now.level }
     ensures desks { desks.new ≡ desks.old }
 {
     let alloc = settings.alloc;
     let limit = settings.config.limit;
     let (ledger, drawer) = ledger_of(alloc, layer, limit)?;
-    let locks = lock_each(alloc, books)?;
+    let locks = lock_each::<K>(alloc, books)?;
     let held = AtomicU64::new(positions);
     let gate = Within {
         gate: settings.gate,
@@ -63,20 +85,28 @@ fn ledger_of(alloc: Global, layer: &Layer, _limit: u32) -> Result<(Ledger, Drawe
     Ledger::new(alloc, layer.len() as u32)
 }
 
-// Each of the books behind a lock of its own, in order. Fails only if out of memory.
-fn lock_each(alloc: Global, books: Vec<Book>) -> Result<Vec<Mutex<Book>>, AllocError> {
+// Each of the books, which are of the problem of `K`, behind a lock of its own, in order. Fails only if out of memory.
+fn lock_each<K: OneProblem>(
+    alloc: Global,
+    books: Vec<Book>,
+) -> Result<Vec<Mutex<KnownBook<K>>>, AllocError>
+    requires { AreOf K.problem books.items }
+{
     let mut locks = Vec::with_capacity(alloc, books.len())?;
     for book in books {
-        locks.push(Mutex::new(book))?;
+        locks.push(Mutex::new(KnownBook::of(book)))?;
     }
     Ok(locks)
 }
 
 // The book behind each of the locks, in order. Fails only if out of memory.
-fn unlock_each(alloc: Global, locks: Vec<Mutex<Book>>) -> Result<Vec<Book>, AllocError> {
+fn unlock_each<K: OneProblem>(
+    alloc: Global,
+    locks: Vec<Mutex<KnownBook<K>>>,
+) -> Result<Vec<Book>, AllocError> {
     let mut books = Vec::with_capacity(alloc, locks.len())?;
     for lock in locks {
-        books.push(lock.into_inner())?;
+        books.push(lock.into_inner().into_book())?;
     }
     Ok(books)
 }

@@ -30,6 +30,7 @@ mod gate;
 mod handing;
 mod held;
 mod iteration;
+mod known;
 mod lent;
 mod locking;
 mod search;

@@ -4,10 +4,8 @@ ghost use Rattle.std.specs.Prelude.{◌≡◌, IfSome};
 ghost use Rattle.std.specs.Sync.Mutex.{mutex_guard_value};
 ghost use Rattle.crew.specs.inside.Calls.{Leaves};
 
-use crate::held::tell_growth;
+use crate::known::LockedBook;
 use crate::shared::Shared;
-use layers::Book;
-use std::sync::atomic::AtomicU64;
 use std::sync::{Mutex, MutexGuard, Wait};
 use std::thread::yield_now;
 
@@ -24,26 +22,26 @@ const LEAST: usize = 16;
 
 /// Takes a lock as `lock` does, after some tries, calls `job` with what is behind it, and releases the lock. While
 /// another worker holds it, worker `worker` enters the pending successors of its own book.
-pub(crate) fn with_lock<R: Wait, T, A, F: Fn(&mut T) -> A>(
+pub(crate) fn with_lock<R: Wait, B: LockedBook, A, F: Fn(&mut B) -> A>(
     rt: &R,
-    shared: &Shared<'_, '_>,
+    shared: &Shared<'_, '_, B>,
     worker: u8,
-    lock: &Mutex<T>,
+    lock: &Mutex<B>,
     job: &F,
 ) -> A
     requires { F.IsAlwaysCallable job.now }
-    ensures { (before : T) × (after : T) × Leaves F.Fn job.now before result after }
+    ensures { (before : B) × (after : B) × Leaves F.Fn job.now before result after }
 {
     with_guard(take_lock(rt, shared, worker, lock), job)
 }
 
 // Takes a lock as `with_lock` does.
-fn take_lock<'b, R: Wait, T>(
+fn take_lock<'b, R: Wait, B: LockedBook>(
     rt: &R,
-    shared: &Shared<'_, '_>,
+    shared: &Shared<'_, '_, B>,
     worker: u8,
-    lock: &'b Mutex<T>,
-) -> MutexGuard<'b, T> {
+    lock: &'b Mutex<B>,
+) -> MutexGuard<'b, B> {
     for _ in 0..TRIES {
         if let Some(guard) = lock.try_lock() {
             return guard;
@@ -75,29 +73,18 @@ fn with_free_lock<T, A, F: Fn(&mut T) -> A>(lock: &Mutex<T>, job: &F) -> Option<
 
 // Enters the pending successors of the worker's own book, and returns `true`. It returns `false` if they are fewer than
 // `LEAST`, or if another worker holds the book.
-fn enter_own(shared: &Shared<'_, '_>, worker: u8) -> bool {
+fn enter_own<B: LockedBook>(shared: &Shared<'_, '_, B>, worker: u8) -> bool {
     let Some(book) = shared.books.get(worker as usize) else {
         return false;
     };
     let held = shared.held;
     let entered = with_free_lock(
         book,
-        &|book: &mut Book|
+        &|book: &mut B|
             ensures { book.exit.now ≡ book.entry.now }
-        { enter_into(book, held) },
+        { book.enter_into(held, LEAST) },
     );
     entered.unwrap_or(false)
-}
-
-// Enters the pending successors of a book whose lock is held, unless they are fewer than `LEAST`, and adds the growth
-// to the shared number of positions. It returns whether it entered them. Contracts see the same book after it.
-fn enter_into(book: &mut Book, held: &AtomicU64) -> bool
-    ensures { book.new ≡ book.old }
-{
-    let before = book.positions_at_least();
-    let entered = book.enter_pending(LEAST);
-    tell_growth(held, before, book.positions_at_least());
-    entered
 }
 
 // Lets other threads run.

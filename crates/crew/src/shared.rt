@@ -9,8 +9,9 @@ ghost use Rattle.crew.specs.inside.Events.{IsTold, EndsAtOnce};
 use crate::end::End;
 use crate::event::Event;
 use crate::gate::Gate;
+use crate::known::LockedBook;
 use claims::Ledger;
-use layers::{Book, Layer, Problem};
+use layers::{Layer, Problem};
 use std::marker::Model;
 use std::sync::atomic::AtomicU64;
 use std::sync::{Mutex, Wait};
@@ -19,17 +20,17 @@ use std::sync::{Mutex, Wait};
 /// ledger of the layer's ranks, and the number of workers for which the books are made. Contracts see the layer, the
 /// ledger, the number of books, and the number of workers.
 #[derive(Drop)]
-pub(crate) struct Shared<'s, 'a> {
+pub(crate) struct Shared<'s, 'a, B: LockedBook> {
     pub(crate) problem: &'a Problem,
     pub(crate) layer: &'s Layer,
-    pub(crate) books: &'s [Mutex<Book>],
+    pub(crate) books: &'s [Mutex<B>],
     pub(crate) ledger: &'s Ledger,
     pub(crate) workers: u8,
     // the number of positions of all books, as the workers add to it
     pub(crate) held: &'s AtomicU64,
 }
 
-impl<'s, 'a> Model for Shared<'s, 'a> {
+impl<'s, 'a, B: LockedBook> Model for Shared<'s, 'a, B> {
     ghost use Rattle.std.specs.Prelude.{length};
     ghost use Rattle.crew.specs.inside.Sharing.{AreOfOneLayer, SharedView};
 
@@ -42,27 +43,27 @@ impl<'s, 'a> Model for Shared<'s, 'a> {
       workers = a.workers;
     } };
 
-    ghost invariant = { λ a. AreOfOneLayer a.layer.now a.problem.now a.ledger.now };
+    ghost invariant = { λ a. AreOfOneLayer a.layer.now a.problem.now a.ledger.now × B.takes a.layer.now.level };
 }
 
 /// A worker of a layer: its number, the handle with which it may block, and the gate, which only [`Worker::pass`]
 /// calls.
 #[derive(Drop)]
-pub(crate) struct Worker<'r, 'p, 's, 'a, R: Wait, G: Gate> {
+pub(crate) struct Worker<'r, 'p, 's, 'a, R: Wait, G: Gate, B: LockedBook> {
     pub(crate) rt: &'r R,
-    pub(crate) shared: &'p Shared<'s, 'a>,
+    pub(crate) shared: &'p Shared<'s, 'a, B>,
     pub(crate) number: u8,
     gate: &'p G,
 }
 
-impl<'r, 'p, 's, 'a, R: Wait, G: Gate> Worker<'r, 'p, 's, 'a, R, G> {
+impl<'r, 'p, 's, 'a, R: Wait, G: Gate, B: LockedBook> Worker<'r, 'p, 's, 'a, R, G, B> {
     /// A worker with a number.
     pub(crate) fn new(
         rt: &'r R,
-        shared: &'p Shared<'s, 'a>,
+        shared: &'p Shared<'s, 'a, B>,
         gate: &'p G,
         number: u8,
-    ) -> Worker<'r, 'p, 's, 'a, R, G>
+    ) -> Worker<'r, 'p, 's, 'a, R, G, B>
         ensures shared { result.shared.now ≡ shared.now }
         ensures gate { result.gate.now ≡ gate.now }
         ensures number { result.number ≡ number }

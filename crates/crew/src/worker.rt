@@ -10,6 +10,7 @@ use crate::end::End;
 use crate::event::draw_rank;
 use crate::gate::Gate;
 use crate::handing::hand_batch;
+use crate::known::LockedBook;
 use crate::shared::{Shared, Worker};
 use area::Scratch;
 use claims::{Drawer, Ledger, PLACES};
@@ -72,9 +73,9 @@ pub fn work<R: Wait, G: Gate>(
 
 // Works on a layer as [`work`] does, by batches of at most as many ranks as there is capacity for parcels.
 // The parcels are kept from layer to layer.
-pub(crate) fn work_at<'a, R: Wait, G: Gate>(
+pub(crate) fn work_at<'a, R: Wait, G: Gate, B: LockedBook>(
     rt: &R,
-    shared: &Shared<'_, 'a>,
+    shared: &Shared<'_, 'a, B>,
     gate: &G,
     drawer: &mut Drawer,
     worker: u8,
@@ -98,8 +99,8 @@ pub(crate) fn work_at<'a, R: Wait, G: Gate>(
 }
 
 // Works on a layer as [`work`] does, once the drawer has its place.
-fn work_enrolled<'a, R: Wait, G: Gate>(
-    worker: &Worker<'_, '_, '_, 'a, R, G>,
+fn work_enrolled<'a, R: Wait, G: Gate, B: LockedBook>(
+    worker: &Worker<'_, '_, '_, 'a, R, G, B>,
     drawer: &mut Drawer,
     scratch: &mut Scratch,
     parcels: &mut Vec<Parcel<'a>>,
@@ -130,8 +131,8 @@ fn work_enrolled<'a, R: Wait, G: Gate>(
 // Works as [`by_batches`] does, with one parcel on the stack, that of a rank. Only a worker without memory for parcels
 // takes this large stack frame.
 #[inline(never)]
-fn with_own_parcel<R: Wait, G: Gate>(
-    worker: &Worker<'_, '_, '_, '_, R, G>,
+fn with_own_parcel<R: Wait, G: Gate, B: LockedBook>(
+    worker: &Worker<'_, '_, '_, '_, R, G, B>,
     drawer: &mut Drawer,
     scratch: &mut Scratch,
     nth: &mut u64,
@@ -154,8 +155,8 @@ fn with_own_parcel<R: Wait, G: Gate>(
 }
 
 // Hands back the first parcel, and then draws batch after batch and hands back the parcels of each.
-fn by_batches<'a, R: Wait, G: Gate>(
-    worker: &Worker<'_, '_, '_, 'a, R, G>,
+fn by_batches<'a, R: Wait, G: Gate, B: LockedBook>(
+    worker: &Worker<'_, '_, '_, 'a, R, G, B>,
     drawer: &mut Drawer,
     scratch: &mut Scratch,
     nth: &mut u64,
@@ -190,8 +191,8 @@ fn by_batches<'a, R: Wait, G: Gate>(
 }
 
 // Draws a rank of the layer, and then passes the gate.
-pub(crate) fn draw<R: Wait, G: Gate>(
-    worker: &Worker<'_, '_, '_, '_, R, G>,
+pub(crate) fn draw<R: Wait, G: Gate, B: LockedBook>(
+    worker: &Worker<'_, '_, '_, '_, R, G, B>,
     drawer: &mut Drawer,
     nth: &mut u64,
 ) -> Result<u64, End>

@@ -5,6 +5,7 @@ ghost use Rattle.crew.specs.inside.Desks.{AreRoomy, HaveDrawers};
 
 use crate::desks::Desk;
 use crate::gate::Gate;
+use crate::known::LockedBook;
 use crate::shared::Shared;
 use crate::worker::work_at;
 use claims::PLACES;
@@ -14,10 +15,10 @@ use std::thread::Threads;
 
 // Lets a worker at each of the desks work on the layer, each in a thread of its own if one can start, and waits until
 // all of them have ended.
-pub(crate) fn work_all<'a, R: Threads + Wait + Sync, G: Gate + Sync>(
+pub(crate) fn work_all<'a, R: Threads + Wait + Sync, G: Gate + Sync, B: LockedBook + Send>(
     rt: &R,
     desks: &mut [Desk<'a>],
-    shared: &Shared<'_, 'a>,
+    shared: &Shared<'_, 'a, B>,
     gate: &G,
 )
     requires places { length desks.old ≤ PLACES }
@@ -40,10 +41,10 @@ pub(crate) fn work_all<'a, R: Threads + Wait + Sync, G: Gate + Sync>(
 }
 
 // Works on the layer as one worker, with the memory of the desk. Its result is ignored.
-fn help<'a, R: Wait, G: Gate>(
+fn help<'a, R: Wait, G: Gate, B: LockedBook>(
     rt: &R,
     desk: &mut Desk<'a>,
-    shared: &Shared<'_, 'a>,
+    shared: &Shared<'_, 'a, B>,
     gate: &G,
     worker: u8,
 )

@@ -3,4 +3,4 @@ use Rattle.crew.specs.inside.Batches.{AreExpanded}
 use Rattle.crew.proofs.batch.expand_each.Given as goal
 
 abbrev pub invariant-loop-place : goal.invariant-loop-place
-invariant-loop-place l = AreExpanded l.fn.shared.layer l.fn.ranks l.place l.parcels × (l.scratch.size ≡ l.fn.scratch.size)
+invariant-loop-place g l = AreExpanded l.fn.shared.layer l.fn.ranks l.place l.parcels × (l.scratch.size ≡ l.fn.scratch.size)
