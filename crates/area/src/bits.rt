@@ -29,9 +29,9 @@ pub fn put(square: Square, words: &mut [u64])
     words[square.0 as usize / WORD_BITS] |= 1 << (square.0 as usize % WORD_BITS);
 }
 
-// Removes a square, whose word must be there.
+/// Removes a square, whose word must be there.
 #[inline(always)]
-pub(crate) fn take_out(square: Square, words: &mut [u64])
+pub fn take_out(square: Square, words: &mut [u64])
     requires { square < WORD_BITS * length words.old }
     ensures { (q : ℕ) → has_bit words.new q ≡ (has_bit words.old q && not (square == q)) }
 {

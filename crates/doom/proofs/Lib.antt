@@ -4,6 +4,7 @@ pub mod Search
 pub mod Ways
 pub mod Pulling
 pub mod Holding
+pub mod LockedOn
 pub mod Beside
 pub mod Parting
 pub mod Passes

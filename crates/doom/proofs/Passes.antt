@@ -233,6 +233,12 @@ peeling_done holds cols boxes old new went none pass p =
     let q = peeling_pass holds cols boxes old new went pass p in
     record { some = q.some; held = pass.held none; largest = q.largest }
 
+-- a remainder by the bits of a word is the number, if that is less
+pub pass_narrow : (holds : Holds) (cols : ℕ) (old new : List ℕ) (went : Bool) → cols < WORD_BITS → IsPass holds (cols % WORD_BITS) old new went →
+    IsPass holds cols old new went
+pass_narrow holds cols old new went narrow =
+    subst (λ (n : ℕ). IsPass holds n old new went) (let same : cols % WORD_BITS ≡ cols = omega (arith, narrow) in same)
+
 -- ---- members that are not in another set
 
 pub other_there : (members others : List ℕ) (place : ℕ) → get_or members place 0 < 2 ^ 64 → get_or others place 0 < 2 ^ 64 →

@@ -2,4 +2,5 @@
 pub mod Holding
 pub mod Pulling
 pub mod Locking
+pub mod LockedOn
 pub mod Dangers

@@ -1,13 +1,13 @@
 ghost use Rattle.std.specs.Prelude.{◌≡◌, ℕ, ◌<◌, ◌↔◌, ◌⊎◌, IsTrue, false, true, length};
 ghost use Rattle.grid.specs.Board.{is_wall, next};
 ghost use Rattle.grid.specs.States.{FitsLevel};
-ghost use Rattle.grid.specs.Squares.{Squares, contains};
+ghost use Rattle.grid.specs.Squares.{Squares, contains, insert, remove};
 ghost use Rattle.doom.specs.Lost.{AreLost};
 ghost use Rattle.doom.specs.Deadlocks.{Doomed, IsDead, IsFrozen};
 ghost use Rattle.doom.specs.Pushed.{AreOthersFrozen, ComeUndoomed, DoomedFrom, IsGroupFrozen};
 
 use crate::dead::Dead;
-use crate::locked::{any_locked_with, has_locked};
+use crate::locked::{any_locked_with, has_locked, is_locked_on};
 use area::Scratch;
 use area::bits::has;
 use grid::{Level, Position, Push, Square};
@@ -43,6 +43,38 @@ pub fn doomed_after(
         level.next(square, dir),
         scratch,
     )
+}
+
+/// Whether a push onto a square that is not dead dooms the position that it leads to, where the position before it was
+/// not doomed. The answer is that of [`doomed_after`]. In a grid of few words this call is faster: it stops once the
+/// pushed box is loose. The last flood was that of the position before the push, and the scratch still holds it
+/// afterwards. `dead` is that of the level. It allocates no memory.
+pub fn dooms(
+    level: &Level,
+    dead: &Dead,
+    position: &Position,
+    push: Push,
+    scratch: &mut Scratch,
+) -> bool
+    requires fits { FitsLevel level.now position.now }
+    requires dead_of_level { dead.now ≡ level.now }
+    requires room { scratch.old.size ≡ length level.now.cells }
+    requires inside { push.square < length level.now.cells }
+    requires live { ¬ (IsDead level.now (next level.now push.square push.dir)) }
+    requires moved { position.now.boxes ≡
+        insert (remove scratch.old.boxes push.square) (next level.now push.square push.dir) }
+    requires undoomed { ¬ (Doomed level.now scratch.old.boxes) }
+    ensures doomed { IsTrue result ↔ Doomed level.now position.now.boxes }
+    ensures kept { scratch.new ≡ scratch.old }
+{
+    let Push { square, dir } = push;
+    let ahead = level.next(square, dir);
+    let boxes = scratch.boxes().as_words();
+    let told = is_locked_on(dead.holds(), level.cols(), boxes, square, ahead);
+    if let Some(told) = told {
+        return told;
+    }
+    doomed_after(level, dead, position, Push { square, dir }, scratch)
 }
 
 /// Whether the square is dead, or some boxes connected to the one on it, at least one of them off goal, are frozen.

@@ -3,6 +3,7 @@
 //! - [`Dead`] finds the dead squares of a level once. All checks use it.
 //! - [`doomed`] checks a whole position for dead squares and frozen boxes (simple and freeze deadlocks).
 //! - [`doomed_after`] checks only what a push can have changed. After an undoomed position it equals `doomed`.
+//! - [`dooms`] does the same after a position that is known not to be doomed, in less time.
 //! - [`Dangers`] finds the pushes of a position that can freeze nothing, for all pushes at once. Ask it before
 //!   `doomed_after` where a search tries many pushes.
 //! - [`any_frozen`] checks some boxes only.
@@ -32,7 +33,7 @@ mod locked;
 mod pulls;
 mod small;
 
-pub use after::doomed_after;
+pub use after::{doomed_after, dooms};
 pub use bound::Bound;
 pub use dangers::Dangers;
 pub use dead::Dead;

@@ -1,14 +1,15 @@
-ghost use Rattle.std.specs.Prelude.{◌≡◌, ℕ, ◌*◌, ◌+◌, ◌<◌, ◌≤◌, ◌↔◌, ◌&&◌, not, IsTrue, true, false, length};
+ghost use Rattle.std.specs.Prelude.{◌≡◌, ℕ, ◌*◌, ◌+◌, ◌<◌, ◌≤◌, ◌↔◌, ◌&&◌, not, IfSome, IsTrue, true, false, length};
 ghost use Rattle.std.specs.List.{list_any};
 ghost use Rattle.grid.specs.Board.{is_wall};
 ghost use Rattle.grid.specs.Masks.{has_bit, word_count};
-ghost use Rattle.grid.specs.Squares.{Squares, contains};
+ghost use Rattle.grid.specs.Squares.{Squares, contains, insert, remove};
 ghost use Rattle.area.specs.Words.{squares_of, word_bit};
 ghost use Rattle.doom.specs.inside.Locking.{AreWithin, HaveRoom, IsGroup, IsHeldBy, IsLargest, IsLook, IsPass};
 ghost use Rattle.doom.specs.inside.Locking.{TellsLocked};
+ghost use Rattle.doom.specs.inside.LockedOn.{TellsLockedOn};
 
 use crate::holds::Holds;
-use crate::small::keep_held_few;
+use crate::small::{is_locked_few, keep_held_few};
 use area::Scratch;
 use area::bits::{after, before, has};
 use grid::{Level, Square, WORD_BITS};
@@ -61,6 +62,33 @@ pub(crate) fn has_locked(holds: &Holds, cols: usize, boxes: &[Square], members: 
 {
     keep_held(holds, cols, boxes, members);
     has_other(boxes, members, holds.goals.as_words())
+}
+
+/// Whether some boxes are locked after one of them moved. It stops once nothing holds the moved box, and so may miss
+/// boxes that are locked without it. `None` for grids of many words or columns.
+#[inline(always)]
+pub(crate) fn is_locked_on(
+    holds: &Holds,
+    cols: usize,
+    boxes: &[u64],
+    from: Square,
+    to: Square,
+) -> Option<bool>
+    requires holds { HaveRoom holds.now (length boxes.now) }
+    requires from { from < WORD_BITS * length boxes.now }
+    requires to { to < WORD_BITS * length boxes.now }
+    ensures { IfSome result (TellsLockedOn holds.now cols (insert (remove (squares_of boxes.now) from) to) to) }
+{
+    if cols >= WORD_BITS {
+        return None;
+    }
+    match boxes.len() {
+        1 => Some(is_locked_few::<1>(holds, cols, boxes, from, to)),
+        2 => Some(is_locked_few::<2>(holds, cols, boxes, from, to)),
+        3 => Some(is_locked_few::<3>(holds, cols, boxes, from, to)),
+        4 => Some(is_locked_few::<4>(holds, cols, boxes, from, to)),
+        _ => None,
+    }
 }
 
 // Reduces the set to its largest subset each of whose squares is held.

@@ -159,6 +159,7 @@ fn push_in(
         dead: problem.dead(),
         position,
         dangers,
+        is_undoomed: false,
     };
     let mut after = Position::default();
     let made = make_after(&parent, 0, push, scratch, &mut after);

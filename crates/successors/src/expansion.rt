@@ -113,6 +113,7 @@ fn successors_of(
         dead,
         position,
         dangers: &buffers.dangers,
+        is_undoomed: true,
     };
     let count = successors_by(
         &parent,

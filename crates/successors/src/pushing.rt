@@ -29,6 +29,8 @@ pub(crate) struct ParentPosition<'a> {
     pub(crate) dead: &'a Dead,
     pub(crate) position: &'a Position,
     pub(crate) dangers: &'a Dangers,
+    // set only if the position is known not to be doomed
+    pub(crate) is_undoomed: bool,
 }
 
 /// Writes the undoomed positions that the pushes lead to over the first slots, and returns their number. The last
@@ -239,6 +241,15 @@ fn is_doomed(
     let Push { square, dir } = push;
     if parent.dangers.spare(ahead, dir) {
         return false;
+    }
+    if parent.is_undoomed {
+        return doom::dooms(
+            parent.level,
+            parent.dead,
+            moved,
+            Push { square, dir },
+            scratch,
+        );
     }
     doom::doomed_after(
         parent.level,

@@ -21,6 +21,7 @@ make_after-made-requires-clause-ready c =
       room = c.requires.room ∙ ap (λ (b : Board). length b.cells) same;
       flooded = subst (λ (b : Board). IsAreaOf b n reach.reached) same c.requires.flooded;
       boxes = c.requires.boxes;
+      undoomed = λ yes. absurd (false≢true yes);
       dangers = subst (λ (b : Board). AreDangers b reach.boxes c.args.dangers.now.words.items) same c.requires.dangers;
     }
 

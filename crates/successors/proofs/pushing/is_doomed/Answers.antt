@@ -1,13 +1,16 @@
 use Rattle.std.proofs.Common.{◌≡◌, ◌↔◌, ℕ, true, IsTrue, refl, sym, ap, subst}
 use Rattle.std.proofs.lemmas.Bool.{false≢true}
+use Rattle.grid.specs.declared.square.Push.{Push}
 use Rattle.grid.specs.Board.{Board, Scene, next}
 use Rattle.grid.specs.States.{FitsLevel}
 use Rattle.grid.specs.Squares.{Squares, contains, insert, remove}
 use Rattle.grid.proofs.lemmas.Squares.{contains-insert_here}
 use Rattle.grid.proofs.lemmas.Steps.{inside_grid}
+use Rattle.area.specs.Pushes.{CanPush}
 use Rattle.doom.specs.Deadlocks.{Doomed, IsDead}
 use Rattle.doom.specs.Loose.{IsLoose}
 use Rattle.doom.proofs.lemmas.Loose.{loose_dooms_nothing}
+use Rattle.doom.proofs.lemmas.Soundness.{doomed_are_lost}
 use Rattle.successors.specs.Expansion.{after_push}
 use Rattle.successors.proofs.lemmas.Successors.{after_fits, after_scene}
 use Rattle.successors.proofs.pushing.is_doomed.Goals as goal
@@ -26,10 +29,32 @@ returns-then-spare-clause-same c = λ undoomed.
     (next board c.args.push.square c.args.push.dir)) c.requires.ready.boxes loose) in
     (λ no. absurd (false≢true no), λ bad. absurd (safe bad))
 
+-- the position after the push fits the level
+fits_after : (board : Board) (n moved : Scene) (p : Push) → FitsLevel board n → CanPush board n p → moved ≡ after_push board n p → FitsLevel board moved
+fits_after board n moved p fits can same = subst (FitsLevel board) (sym same) (after_fits board n fits.scene p fits can)
+
+pub dooms-requires-clause-fits : goal.dooms-requires-clause-fits
+dooms-requires-clause-fits c =
+    fits_after c.args.parent.now.level.now c.args.parent.now.position.now c.args.moved.now c.args.push c.requires.ready.fits c.requires.possible c.requires.moved
+
+pub dooms-requires-clause-inside : goal.dooms-requires-clause-inside
+dooms-requires-clause-inside c =
+    inside_grid c.args.parent.now.level.now c.args.push.square (c.requires.ready.fits.scene.boxes c.args.push.square c.requires.possible.there)
+
+pub returns-then-parent-clause-same : goal.returns-then-parent-clause-same
+returns-then-parent-clause-same c = λ undoomed.
+    subst (λ (s : Scene). IsTrue c.dooms.result ↔ Doomed c.args.parent.now.level.now s.boxes) c.requires.moved c.dooms.ensures.doomed
+
+pub returns-then-parent-clause-lost : goal.returns-then-parent-clause-lost
+returns-then-parent-clause-lost c = λ bad.
+    let board : Board = c.args.parent.now.level.now in
+    let n : Scene = c.args.parent.now.position.now in
+    doomed_are_lost board c.args.moved.now.boxes (c.dooms.ensures.doomed.0 bad) (after_push board n c.args.push)
+    (after_scene board n c.requires.ready.fits.scene c.args.push c.requires.possible) (sym (ap (λ (s : Scene). s.boxes) c.requires.moved))
+
 pub doomed_after-requires-clause-fits : goal.doomed_after-requires-clause-fits
 doomed_after-requires-clause-fits c =
-    subst (FitsLevel c.args.parent.now.level.now) (sym c.requires.moved)
-    (after_fits c.args.parent.now.level.now c.args.parent.now.position.now c.requires.ready.fits.scene c.args.push c.requires.ready.fits c.requires.possible)
+    fits_after c.args.parent.now.level.now c.args.parent.now.position.now c.args.moved.now c.args.push c.requires.ready.fits c.requires.possible c.requires.moved
 
 pub doomed_after-requires-clause-inside : goal.doomed_after-requires-clause-inside
 doomed_after-requires-clause-inside c =
