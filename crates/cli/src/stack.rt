@@ -33,10 +33,11 @@ pub(crate) fn enlarge<R: Files>(rt: &R, alloc: Global) -> Result<(), AllocError>
     if limit(rt, alloc).is_some_and(|limit| limit < LEAST_LIMIT) {
         return Err(AllocError);
     }
-    let room = vec![in alloc; MARK; STACK]?;
+    let mut room = Vec::with_capacity(alloc, STACK)?;
+    room.push(MARK)?;
     let is_there = room.as_slice().iter().all(|byte| *byte == MARK);
     drop(room);
-    // both tests keep the compiler from removing the writes
+    // the two tests keep the compiler from removing the reservation and the writes
     if is_there && touch(STACK / PAGE, &[MARK; PAGE]) == MARK {
         Ok(())
     } else {
