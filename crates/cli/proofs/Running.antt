@@ -10,7 +10,7 @@ use Rattle.cli.specs.declared.trouble.Trouble.TheVariants as trouble
 use Rattle.cli.specs.Performing.{EndsBy, IsOpened, RunsOn, RunsOnByLine, RunsOnTwo}
 
 -- runs on files that were opened, and on the output
-module _ {File : Type 0} (opens : List ℕ → File → Type 0) (seen : File → Seen) (output written : Seen) where
+module _ {File : Type 0} (opens : List ℕ → Option File → Type 0) (seen : File → Seen) (output written : Seen) where
   pub on_one : (IsReport : List ℕ → Report → Type 0) (path : List ℕ) (file read : File)
       (result : Result ℕ RunFault) → IsOpened opens seen path file
       → Runs IsReport (seen file) (seen read) output written result

@@ -1,13 +1,11 @@
 -- What performing a request does: which engine runs, on which files, and with which settings.
-use Rattle.std.specs.Prelude.{◌≡◌, ℕ, ◌⊎◌, List, [], Option, Result, Ok, Err, ⊤}
-use Rattle.sokopar.specs.Best.{IsBestReport}
-use Rattle.sokopar.specs.Collection.{BeginsCollectionReport, IsCollectionReport}
+use Rattle.std.specs.Prelude.{◌≡◌, ℕ, ◌⊎◌, ◌++◌, List, [], Option, Some, None, Result, Ok, Err, true, false, codes, decimal, ⊤}
 use Rattle.sokopar.specs.DeadMap.{IsDeadReport}
 use Rattle.sokopar.specs.Ends.{Seen}
 use Rattle.sokopar.specs.OneReport.{IsOnlySolveReport}
 use Rattle.sokopar.specs.Explaining.{IsExplainReport}
-use Rattle.sokopar.specs.Folder.{BeginsSolutionsReport, IsSolutionsReport}
-use Rattle.sokopar.specs.Proving.{IsProveReport}
+use Rattle.sokopar.specs.Levels.{BeginsReport, IsBestLine, IsProveLine, IsReport}
+use Rattle.sokopar.specs.OneLevel.{IsLevelReport}
 use Rattle.sokopar.specs.Report.{Report, IsCheckReport, IsReplayReport, IsShowReport, Written, WrittenOfTwo}
 use Rattle.sokopar.specs.Runs.{Runs, RunsByLine, RunsInTwo}
 use Rattle.sokopar.specs.declared.fault.RunFault.{RunFault}
@@ -21,21 +19,30 @@ use Rattle.cli.specs.declared.trouble.Trouble.{Trouble}
 use Rattle.cli.specs.declared.trouble.Trouble.TheVariants as trouble
 
 -- the file is one that opening this path gave, and nothing was read from it
-abbrev pub IsOpened : {File : Type 0} → (List ℕ → File → Type 0) → (File → Seen) → List ℕ → File → Type 0
-IsOpened opens seen path file = opens path file × ((seen file).acts ≡ [])
+abbrev pub IsOpened : {File : Type 0} → (List ℕ → Option File → Type 0) → (File → Seen) → List ℕ → File → Type 0
+IsOpened opens seen path file = opens path (Some file) × ((seen file).acts ≡ [])
 
--- nothing is known of what opening the solution of a level in a folder gave
-abbrev pub gives_any : {File : Type 0} → ℕ → Result (Option File) RunFault → Type 0
-gives_any n result = ⊤
+-- what opening a path gave, if there is a file: that file, or that there is none, or that opening it failed
+abbrev pub MayOpen : {File : Type 0} → (List ℕ → Option File → Type 0) → (List ℕ → Type 0) → List ℕ →
+    Result (Option File) RunFault → Type 0
+MayOpen opens refuses path (Ok file) = opens path file
+MayOpen opens refuses path (Err OutOfMemory) = ⊤
+MayOpen opens refuses path (Err fault) = refuses path
+
+-- what opening the solution of level n in a folder gave, the file `n.lurd`
+abbrev pub OpensSolution : {File : Type 0} → (List ℕ → Option File → Type 0) → (List ℕ → Type 0) → List ℕ → ℕ →
+    Result (Option File) RunFault → Type 0
+OpensSolution opens refuses folder n =
+    MayOpen opens refuses (folder ++ codes "/" ++ decimal n ++ codes ".lurd")
 
 -- opening this path failed; or memory ran out, and no path is named
 abbrev pub CannotOpen : (List ℕ → Type 0) → List ℕ → Trouble → Type 0
 CannotOpen refuses path (trouble.Open named) = (named.now ≡ path) × refuses path
 CannotOpen refuses path (trouble.Run fault) = fault ≡ OutOfMemory
 
--- `opens` says which files opening a path gives, `seen` what contracts see of a file, `output` and `written` what they
--- see of the output before and after
-module _ {File : Type 0} (opens : List ℕ → File → Type 0) (seen : File → Seen) (output written : Seen) where
+-- `opens` says what opening a path gives, a file or that there is none, `seen` what contracts see of a file, `output` and
+-- `written` what they see of the output before and after
+module _ {File : Type 0} (opens : List ℕ → Option File → Type 0) (seen : File → Seen) (output written : Seen) where
   -- an engine with these reports ran on the file at this path and on the output, and ended with this result
   pub record RunsOn (IsReport : List ℕ → Report → Type 0) (path : List ℕ) (result : Result ℕ RunFault) : Type 0 where
     pub file : File
@@ -65,24 +72,25 @@ module _ {File : Type 0} (opens : List ℕ → File → Type 0) (seen : File →
     pub runs : RunsInTwo IsReport n (seen file) (seen read) (seen second) (seen second_read) output written result
 
   -- the engine of the task ran with its settings on the file at this path, and on that of the solution, and ended with
-  -- this result
-  abbrev pub RunsEngine : List ℕ → Task → Result ℕ RunFault → Type 0
-  RunsEngine path Check = RunsOn IsCheckReport path
-  RunsEngine path (Explain number) = RunsOn (IsExplainReport number) path
-  RunsEngine path (Show number) = RunsOn (IsShowReport number) path
-  RunsEngine path (Dead number) = RunsOn (IsDeadReport number) path
-  RunsEngine path (Replay number solution) = RunsOnTwo (IsReplayReport number) number path solution.now
-  RunsEngine path (Solve search) =
+  -- this result. `refuses` says of which paths opening fails
+  abbrev pub RunsEngine : (List ℕ → Type 0) → List ℕ → Task → Result ℕ RunFault → Type 0
+  RunsEngine refuses path Check = RunsOn IsCheckReport path
+  RunsEngine refuses path (Explain number) = RunsOn (IsExplainReport number) path
+  RunsEngine refuses path (Show number) = RunsOn (IsShowReport number) path
+  RunsEngine refuses path (Dead number) = RunsOn (IsDeadReport number) path
+  RunsEngine refuses path (Replay number solution) = RunsOnTwo (IsReplayReport number) number path solution.now
+  RunsEngine refuses path (Solve search) =
       RunsOn (Written search.lurd (IsOnlySolveReport search.config.cap search.config.limit search.number)) path
-  RunsEngine path (Best search) =
-      RunsOn (Written search.lurd
-      (IsBestReport search.config.moves search.config.cap search.config.limit search.number)) path
-  RunsEngine path (BestCollection search) = RunsOnByLine (IsCollectionReport search) (BeginsCollectionReport search) path
-  RunsEngine path (Prove search solution) =
-      RunsOnTwo (WrittenOfTwo search.lurd (IsProveReport search.moves search.limit search.number)) search.number path
+  RunsEngine refuses path (Best search) =
+      RunsOn (Written search.lurd (λ bytes. IsLevelReport false search.settings search.number bytes None)) path
+  RunsEngine refuses path (BestCollection search) =
+      RunsOnByLine (IsReport (IsBestLine search) false search) (BeginsReport (IsBestLine search) search) path
+  RunsEngine refuses path (Prove search solution) =
+      RunsOnTwo (WrittenOfTwo search.lurd (IsLevelReport true search.settings search.number)) search.number path
       solution.now
-  RunsEngine path (ProveCollection search folder) =
-      RunsOnByLine (IsSolutionsReport gives_any seen search) (BeginsSolutionsReport gives_any seen search) path
+  RunsEngine refuses path (ProveCollection search folder) =
+      RunsOnByLine (IsReport (IsProveLine (OpensSolution opens refuses folder.now) seen search) true search)
+      (BeginsReport (IsProveLine (OpensSolution opens refuses folder.now) seen search) search) path
 
 -- the solution of the task could not be opened, or memory ran out
 abbrev pub CannotOpenSolution : (List ℕ → Type 0) → Task → Trouble → Type 0
@@ -107,7 +115,7 @@ abbrev pub ExitsWithout : List (List ℕ) → ℕ → Type 0
 ExitsWithout words status = (status ≡ 5) ⊎ (IsNoRequest words × ((status ≡ 0) ⊎ (status ≡ 2) ⊎ (status ≡ 3)))
 
 -- `refuses` says of which paths opening fails
-module _ {File : Type 0} (opens : List ℕ → File → Type 0) (refuses : List ℕ → Type 0) (seen : File → Seen)
+module _ {File : Type 0} (opens : List ℕ → Option File → Type 0) (refuses : List ℕ → Type 0) (seen : File → Seen)
     (output written : Seen) where
   -- no engine ran since a file of the task could not be opened, and nothing was written
   abbrev pub OpensNone : List ℕ → Task → Trouble → Type 0
@@ -117,7 +125,7 @@ module _ {File : Type 0} (opens : List ℕ → File → Type 0) (refuses : List 
   -- what performing a task on the file at this path does, by its result: its engine ran on its files and wrote its
   -- report; or one of the files could not be opened, and nothing was written
   abbrev pub Performs : List ℕ → Task → Result ℕ Trouble → Type 0
-  Performs path task result = EndsBy (RunsEngine opens seen output written path task) (OpensNone path task) result
+  Performs path task result = EndsBy (RunsEngine opens seen output written refuses path task) (OpensNone path task) result
 
   -- the program's exit status for a request: that of the report, or that of the trouble
   abbrev pub Exits : Request → ℕ → Type 0

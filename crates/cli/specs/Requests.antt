@@ -3,7 +3,7 @@ use Rattle.std.specs.Prelude.{◌≡◌, ℕ, ◌≤◌, Bool, false, List, Opti
 use Rattle.clap.specs.Walk.{Row}
 use Rattle.crew.specs.Configured.{IsWithinLimits}
 use Rattle.sokopar.specs.declared.engines.SolveRequest.{SolveRequest}
-use Rattle.sokopar.specs.declared.proving.SearchConfig.{SearchConfig}
+use Rattle.judging.specs.declared.judgement.Settings.{Settings}
 use Rattle.cli.specs.declared.arguments.TheConstants.{MOST, MOST_LOCKS, MOST_WORKERS}
 use Rattle.cli.specs.declared.request.Request.{Request}
 use Rattle.cli.specs.declared.request.Task.{Task}
@@ -31,8 +31,8 @@ pub record HasSettings (arguments : List Row) (workers limit : ℕ) (moves : Boo
   pub given_moves : HasFlag arguments (codes "moves") moves
 
 -- the settings of `best`, with the cap of pushes, if one is given
-pub record HasConfig (arguments : List Row) (config : SearchConfig) : Type 0 where
-  pub settings : HasSettings arguments config.workers config.limit config.moves
+pub record HasConfig (arguments : List Row) (workers : ℕ) (config : Settings) : Type 0 where
+  pub settings : HasSettings arguments workers config.limit config.moves
   pub cap : MayHaveNumber arguments (codes "max-pushes") 0 MOST config.cap
 
 -- the level is the number of its argument, and neither a range of levels nor the flag for a table is given; only the
@@ -63,15 +63,15 @@ AsksTask subcommand.Replay arguments (Replay number solution) =
     HasNumber arguments (codes "N") MOST number × HasText arguments (codes "SOLUTION") solution.now
 AsksTask subcommand.Solve arguments (Solve search) = AsksToSolve arguments search
 AsksTask subcommand.Best arguments (Best search) =
-    NamesLevel arguments search.number search.lurd × HasConfig arguments search.config
+    NamesLevel arguments search.number search.lurd × HasConfig arguments search.workers search.settings
 AsksTask subcommand.Best arguments (BestCollection search) =
-    NamesRange arguments search.from search.to search.table × HasConfig arguments search.config
+    NamesRange arguments search.from search.to search.table × HasConfig arguments search.workers search.settings
 AsksTask subcommand.Prove arguments (Prove search solution) =
-    NamesLevel arguments search.number search.lurd × HasSettings arguments search.workers search.limit search.moves ×
+    NamesLevel arguments search.number search.lurd × HasSettings arguments search.workers search.settings.limit search.settings.moves ×
     HasText arguments (codes "SOLUTION") solution.now × LacksText arguments (codes "solutions")
 AsksTask subcommand.Prove arguments (ProveCollection search folder) =
     NamesRange arguments search.from search.to search.table ×
-    HasSettings arguments search.workers search.limit search.moves ×
+    HasSettings arguments search.workers search.settings.limit search.settings.moves ×
     HasText arguments (codes "solutions") folder.now × LacksText arguments (codes "SOLUTION")
 AsksTask subcommand arguments task = ⊥
 

@@ -10,9 +10,8 @@ use crate::system::{Solutions, System};
 use crate::trouble::Trouble;
 use crew::Free;
 use sokopar::{
-    BestRequest, CollectionRequest, ProveRequest, Sink, SolutionsRequest, SolveRequest, run_best,
-    run_best_collection, run_check, run_dead, run_explain, run_prove, run_prove_collection,
-    run_replay, run_show, run_solve_with,
+    LevelRequest, LevelsRequest, Sink, SolveRequest, run_best, run_best_collection, run_check,
+    run_dead, run_explain, run_prove, run_prove_collection, run_replay, run_show, run_solve_with,
 };
 use std::alloc::Global;
 use std::sync::Wait;
@@ -127,7 +126,7 @@ pub(crate) fn best<'a, R: Eprint + Threads + Sync, S: System, K: Sink>(
     system: &S,
     alloc: Global,
     file: &'a str,
-    search: BestRequest,
+    search: LevelRequest,
     progress: bool,
     sink: &mut K,
 ) -> Result<u8, Trouble<'a>>
@@ -147,7 +146,7 @@ pub(crate) fn best_collection<'a, R: Eprint + Threads + Sync, S: System, K: Sink
     system: &S,
     alloc: Global,
     file: &'a str,
-    search: CollectionRequest,
+    search: LevelsRequest,
     progress: bool,
     sink: &mut K,
 ) -> Result<u8, Trouble<'a>>
@@ -167,7 +166,7 @@ pub(crate) fn prove<'a, R: Eprint + Threads + Sync, S: System, K: Sink>(
     alloc: Global,
     file: &'a str,
     solution: &'a str,
-    search: ProveRequest,
+    search: LevelRequest,
     progress: bool,
     sink: &mut K,
 ) -> Result<u8, Trouble<'a>>
@@ -197,7 +196,7 @@ pub(crate) fn prove_collection<'a, R: Eprint + Threads + Sync, S: System, K: Sin
     alloc: Global,
     file: &'a str,
     folder: &'a str,
-    search: SolutionsRequest,
+    search: LevelsRequest,
     progress: bool,
     sink: &mut K,
 ) -> Result<u8, Trouble<'a>>
@@ -205,7 +204,11 @@ pub(crate) fn prove_collection<'a, R: Eprint + Threads + Sync, S: System, K: Sin
         file.now (Task.ProveCollection search folder.entry) result }
 {
     let mut source = system.open(file)?;
-    let solutions = Solutions::new(system, alloc, folder);
+    let solutions = Solutions {
+        system,
+        alloc,
+        folder,
+    };
     let mut meter = Meter::new(rt, progress);
     Ok(run_prove_collection(rt, alloc, &mut source, &solutions, search, &mut meter, sink)?)
 }

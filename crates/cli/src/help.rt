@@ -258,7 +258,9 @@ with a fault or too many boxes. The exit status is 0 if all are optimal, else 5
 if one ran out of memory, else 4 if one is open, else 1.
 
 With --table, best prints a table for a spreadsheet or for cut: a line of names
-and a line for each level, with a tab between two columns, and no totals.";
+and a line for each level, with a tab between two columns, and no totals. The
+verdict is one word, such as optimal, open, unsolvable or fault; the next column
+says what is proved of the numbers: pushes, or pushes and moves.";
 
 /// The lines on standard error, in the help of `best` and `prove`.
 const PROGRESS: &str = "\
@@ -358,7 +360,7 @@ The exit status is 0 if all that have a solution are optimal, else 5 if one ran
 out of memory, else 3 if one cannot be read, else 4 if one is open, else 1.
 
 With --table, prove prints a table as best does. The verdict is optimal, beaten
-(a better solution is in the last columns), open, or why there is none.";
+(a better solution is in the last column), open, or why there is none.";
 
 /// How `prove` compares with `replay` and `best`, its memory, and examples, in the help of `prove`.
 const PROOF: &str = "\

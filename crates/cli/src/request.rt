@@ -19,9 +19,7 @@ use crate::subcommands::{Subcommand, command, usage_of};
 use clap::error::ErrorKind;
 use clap::{ArgMatches, Error};
 use crew::Config;
-use sokopar::{
-    BestRequest, CollectionRequest, ProveRequest, SearchConfig, SolutionsRequest, SolveRequest,
-};
+use sokopar::{LevelRequest, LevelsRequest, Settings, SolveRequest};
 use std::alloc::{AllocError, Global};
 
 /// The request of a command line.
@@ -53,17 +51,17 @@ pub enum Task<'a> {
     /// Solve a level.
     Solve(SolveRequest),
     /// Find a solution with the fewest pushes of a level.
-    Best(BestRequest),
+    Best(LevelRequest),
     /// Find a solution with the fewest pushes of each level of a part of the collection.
-    BestCollection(CollectionRequest),
+    BestCollection(LevelsRequest),
     /// Prove that the solution of a file has the fewest pushes on a level.
     Prove {
-        search: ProveRequest,
+        search: LevelRequest,
         solution: &'a str,
     },
     /// Prove that each solution of a folder has the fewest pushes on its level of a part of the collection.
     ProveCollection {
-        search: SolutionsRequest,
+        search: LevelsRequest,
         folder: &'a str,
     },
 }
@@ -93,9 +91,9 @@ fn solve_task<'a>(matches: &ArgMatches<'a>) -> Result<Task<'a>, BadArgument<'a>>
     }))
 }
 
-/// The settings of `best`.
-fn config_of<'a>(matches: &ArgMatches<'a>) -> Result<SearchConfig, BadArgument<'a>>
-    ensures ok { IfOk result (λ config. HasConfig (found_in matches.now) config) }
+/// The number of workers of `best`, and its settings.
+fn config_of<'a>(matches: &ArgMatches<'a>) -> Result<(u8, Settings), BadArgument<'a>>
+    ensures ok { IfOk result (λ config. HasConfig (found_in matches.now) config.0 config.1) }
     ensures err { OnErr result (
         (number_in (found_in matches.now) (codes "workers") MOST_WORKERS ≡ None) ⊎
         (number_in (found_in matches.now) (codes "limit") MOST ≡ None) ⊎
@@ -105,12 +103,7 @@ fn config_of<'a>(matches: &ArgMatches<'a>) -> Result<SearchConfig, BadArgument<'
     let limit = number_of(matches, "limit", "--limit <L>", MOST)?;
     let cap = number_if_given(matches, "max-pushes", "--max-pushes <M>", 0)?;
     let moves = has_flag(matches, "moves");
-    Ok(SearchConfig {
-        workers: workers as u8,
-        limit,
-        cap,
-        moves,
-    })
+    Ok((workers as u8, Settings { cap, limit, moves }))
 }
 
 /// The task of the arguments of `best`.
@@ -125,11 +118,12 @@ fn best_task<'a>(matches: &ArgMatches<'a>) -> Result<Task<'a>, BadArgument<'a>>
             lacks(matches, "from", "--from <A>", "[N]")?;
             lacks(matches, "to", "--to <B>", "[N]")?;
             lacks_flag(matches, "table", BadArgument::Beside("--table", "[N]"))?;
-            let config = config_of(matches)?;
+            let (workers, settings) = config_of(matches)?;
             let lurd = has_flag(matches, "lurd");
-            Ok(Task::Best(BestRequest {
+            Ok(Task::Best(LevelRequest {
                 number,
-                config,
+                workers,
+                settings,
                 lurd,
             }))
         }
@@ -137,13 +131,14 @@ fn best_task<'a>(matches: &ArgMatches<'a>) -> Result<Task<'a>, BadArgument<'a>>
             lacks_flag(matches, "lurd", BadArgument::WithoutLevel("--lurd"))?;
             let from = number_if_given(matches, "from", "--from <A>", 1)?.unwrap_or(1);
             let to = number_if_given(matches, "to", "--to <B>", 1)?.unwrap_or(MOST);
-            let config = config_of(matches)?;
+            let (workers, settings) = config_of(matches)?;
             let table = has_flag(matches, "table");
-            Ok(Task::BestCollection(CollectionRequest {
+            Ok(Task::BestCollection(LevelsRequest {
                 from,
                 to,
                 table,
-                config,
+                workers,
+                settings,
             }))
         }
     }
@@ -163,11 +158,12 @@ fn prove_task<'a>(matches: &ArgMatches<'a>) -> Result<Task<'a>, BadArgument<'a>>
     lacks(matches, "from", "--from <A>", "[N]")?;
     lacks(matches, "to", "--to <B>", "[N]")?;
     lacks_flag(matches, "table", BadArgument::Beside("--table", "[N]"))?;
-    let search = ProveRequest {
+    let moves = has_flag(matches, "moves");
+    let cap = None;
+    let search = LevelRequest {
         number,
         workers: workers as u8,
-        limit,
-        moves: has_flag(matches, "moves"),
+        settings: Settings { cap, limit, moves },
         lurd: has_flag(matches, "lurd"),
     };
     Ok(Task::Prove { search, solution })
@@ -190,13 +186,14 @@ fn solutions_task<'a>(
     let to = number_if_given(matches, "to", "--to <B>", 1)?.unwrap_or(MOST);
     let workers = number_of(matches, "workers", "--workers <W>", MOST_WORKERS)?;
     let limit = number_of(matches, "limit", "--limit <L>", MOST)?;
-    let search = SolutionsRequest {
+    let moves = has_flag(matches, "moves");
+    let cap = None;
+    let search = LevelsRequest {
         from,
         to,
         table: has_flag(matches, "table"),
         workers: workers as u8,
-        limit,
-        moves: has_flag(matches, "moves"),
+        settings: Settings { cap, limit, moves },
     };
     Ok(Task::ProveCollection { search, folder })
 }

@@ -1,5 +1,5 @@
-ghost use Rattle.std.specs.Prelude.{◌≡◌, ◌⊎◌, ℕ, List, [], IfOk, IfErr, IfSome, ⊤};
-ghost use Rattle.cli.specs.Performing.{CannotOpen, IsOpened, gives_any};
+ghost use Rattle.std.specs.Prelude.{◌≡◌, ◌⊎◌, ℕ, List, [], Option, IfOk, IfErr, IfSome, ⊤};
+ghost use Rattle.cli.specs.Performing.{CannotOpen, IsOpened, MayOpen, OpensSolution};
 
 use crate::steady::Steady;
 use crate::trouble::Trouble;
@@ -12,8 +12,8 @@ use std::{fs, io};
 pub(crate) trait System {
     type File: Source + Drop;
 
-    // what holds of a file that opening a path gave
-    ghost opens: { List ℕ → Self.File → Type 0 };
+    // what holds of what opening a path gave: a file, or that there is none
+    ghost opens: { List ℕ → Option Self.File → Type 0 };
 
     // what holds of a path whose opening failed
     ghost refuses: { List ℕ → Type 0 };
@@ -26,6 +26,7 @@ pub(crate) trait System {
     /// Opens the file at a path; `None` if there is no such file. Fails with [`RunFault::Read`] if it cannot be opened,
     /// or if out of memory.
     fn open_if_any(&self, path: &str) -> Result<Option<Self::File>, RunFault>
+        ensures opened { MayOpen opens refuses path.now result }
         ensures fresh { IfOk result (λ file. IfSome file (λ file. (Self.File.seen file).acts ≡ [])) }
         ensures fault { IfErr result (λ fault. (fault ≡ RunFault.OutOfMemory) ⊎ (fault ≡ RunFault.Read)) };
 }
@@ -33,26 +34,16 @@ pub(crate) trait System {
 /// The solutions of a folder: that of level N is the file `N.lurd`.
 #[derive(Drop)]
 pub(crate) struct Solutions<'s, S> {
-    system: &'s S,
-    alloc: Global,
-    folder: &'s str,
-}
-
-impl<'s, S: System> Solutions<'s, S> {
-    /// The solutions in the folder at a path.
-    pub(crate) fn new(system: &'s S, alloc: Global, folder: &'s str) -> Solutions<'s, S> {
-        Solutions {
-            system,
-            alloc,
-            folder,
-        }
-    }
+    pub(crate) system: &'s S,
+    pub(crate) alloc: Global,
+    /// The path of the folder.
+    pub(crate) folder: &'s str,
 }
 
 impl<'s, S: System> Folder for Solutions<'s, S> {
     type File = S::File;
 
-    ghost opened = { λ _. gives_any };
+    ghost opened = { λ it. OpensSolution S.opens S.refuses it.folder.now };
 
     fn open(&self, number: u32) -> Result<Option<S::File>, RunFault> {
         let folder = self.folder;

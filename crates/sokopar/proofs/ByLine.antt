@@ -1,76 +1,66 @@
 -- A collection, as its levels are judged and written one by one.
-use Rattle.std.proofs.Common.{◌≡◌, ℕ, suc, ◌+◌, ◌<◌, ◌≤◌, List, [], ◌∷◌, ◌++◌, length, Some, None, Result, Ok, Err}
+use Rattle.std.proofs.Common.{◌≡◌, ℕ, suc, ◌+◌, ◌<◌, ◌≤◌, Bool, List, [], ◌∷◌, ◌++◌, length, Some, None, Result, Ok, Err}
 use Rattle.std.proofs.Common.{IfErr, inl, inr, refl, sym, ap, ◌∙◌, subst, arith, length-append}
-use Rattle.std.proofs.lemmas.List.Sums.{count_by-le-length}
 use mathlib.Core.List.{map-append}
 use Rattle.xsb.specs.declared.entry.BoardEntry.{BoardEntry}
 use Rattle.xsb.specs.declared.limits.TheConstants.{MAX_FILE}
 use Rattle.xsb.specs.declared.reader.Collection.{Collection}
 use Rattle.xsb.specs.inside.Progress.{HasRead, GivesNext, lines_left}
 use Rattle.sokopar.specs.Ends.{Seen}
+use Rattle.grid.specs.Board.{Board}
+use Rattle.grid.specs.declared.fault.LevelFault.{LevelFault}
+use Rattle.judging.specs.Kinds.{kind_of, worst_status}
+use Rattle.judging.specs.Table.{head_of, level_line}
+use Rattle.judging.specs.declared.judgement.Judgement.{Judgement}
+use Rattle.judging.specs.declared.kind.Kind.{Kind}
 use Rattle.sokopar.specs.Entries.{listed_of}
-use Rattle.sokopar.specs.Levels.{AreReported, none, outside, inside, BeginsListing, BeginsReportOnLevels, IsBetween, IsReportOnLevels}
-use Rattle.sokopar.specs.Levels.{EndsWith, beyond, within, count_of, is_one_of, lines_of, worst_status}
+use Rattle.sokopar.specs.Levels.{AreReported, none, outside, inside, BeginsListing, BeginsReport, IsBetween, IsLine, IsReport}
+use Rattle.sokopar.specs.Levels.{EndsWith, beyond, within, Reported, kinds_of, last_line, lines_of}
 use Rattle.sokopar.specs.Listing.{Listed}
 use Rattle.sokopar.specs.Report.{no_level}
 use Rattle.sokopar.specs.Runs.{ReadsWhole, RunsByLine, Stops, WritesLines, WritesPart, WritesWhole}
 use Rattle.sokopar.specs.Runs as runs
 use Rattle.sokopar.specs.declared.fault.RunFault.{RunFault}
 use Rattle.sokopar.specs.declared.fault.RunFault.TheVariants.{Write, OutOfMemory}
-use Rattle.sokopar.specs.declared.reported.Kind.{Kind}
-use Rattle.sokopar.specs.declared.reported.Kind.TheVariants as kind
-use Rattle.sokopar.specs.declared.reported.Reported.{Reported}
-use Rattle.sokopar.specs.declared.totals.Totals.{Totals}
-use Rattle.sokopar.specs.inside.Sending.{Sends, SendsByLine, SendsLast, SendsLevel, SendsLevels, SendsLine, StopsByLine}
-use Rattle.sokopar.specs.inside.Totals.{AreFewLevels, count_with, counted, status_of, totals_of}
+use Rattle.sokopar.specs.declared.proving.LevelsRequest.{LevelsRequest}
+use Rattle.sokopar.specs.inside.Sending.{Sends, SendsByLine, SendsJudged, SendsLast, SendsLevel, SendsLevels, SendsLine, StopsByLine}
 use Rattle.xsb.proofs.lemmas.Cutting.{rest_of}
-use Rattle.sokopar.proofs.Listings.{HasListed, count-last, listed-all, listed-more}
-
--- ---- totals
-
--- one level more has one of these kinds, or not
-count-more : (reported : List Reported) (one : Reported) (kinds : List Kind) →
-    count_with kinds one.kind (count_of kinds reported) ≡ count_of kinds (reported ++ one ∷ [])
-count-more reported one kinds = sym (count-last (λ (r : Reported). is_one_of kinds r.kind) reported one)
-
--- the totals grow by a level
-totals-last : (reported : List Reported) (one : Reported) → counted (totals_of reported) one.kind ≡ totals_of (reported ++ one ∷ [])
-totals-last reported one =
-    let long : length reported + 1 ≡ length (reported ++ one ∷ []) = sym (length-append reported (one ∷ [])) in
-    λ i. record {
-      levels = long i;
-      optimal = count-more reported one (kind.Optimal ∷ []) i;
-      unsolved = count-more reported one (kind.Unsolved ∷ []) i;
-      beaten = count-more reported one (kind.Beaten ∷ []) i;
-      undecided = count-more reported one (kind.Open ∷ kind.OutOfMemory ∷ []) i;
-      out_of_memory = count-more reported one (kind.OutOfMemory ∷ []) i;
-      unjudged = count-more reported one (kind.NotJudged ∷ kind.CannotRead ∷ []) i;
-      unread = count-more reported one (kind.CannotRead ∷ []) i;
-      missing = count-more reported one (kind.Missing ∷ []) i;
-    }
-
-few-count : (reported : List Reported) → length reported ≤ MAX_FILE → (kinds : List Kind) → count_of kinds reported ≤ MAX_FILE
-few-count reported few kinds =
-    let count : count_of kinds reported ≤ length reported = count_by-le-length (λ (r : Reported). is_one_of kinds r.kind) reported in
-    omega (arith, count, few)
-
-few-of : (reported : List Reported) → length reported ≤ MAX_FILE → AreFewLevels (totals_of reported)
-few-of reported few = record {
-  levels = few;
-  optimal = few-count reported few (kind.Optimal ∷ []);
-  unsolved = few-count reported few (kind.Unsolved ∷ []);
-  beaten = few-count reported few (kind.Beaten ∷ []);
-  undecided = few-count reported few (kind.Open ∷ kind.OutOfMemory ∷ []);
-  out_of_memory = few-count reported few (kind.OutOfMemory ∷ []);
-  unjudged = few-count reported few (kind.NotJudged ∷ kind.CannotRead ∷ []);
-  unread = few-count reported few (kind.CannotRead ∷ []);
-  missing = few-count reported few (kind.Missing ∷ []);
-}
+use Rattle.sokopar.proofs.Listings.{HasListed, listed-all, listed-more}
 
 -- ---- lines
 
 lines-last : (reported : List Reported) (one : Reported) → lines_of (reported ++ one ∷ []) ≡ lines_of reported ++ one.text ∷ []
 lines-last reported one = map-append (λ (r : Reported). r.text) reported (one ∷ [])
+
+kinds-last : (reported : List Reported) (one : Reported) → kinds_of (reported ++ one ∷ []) ≡ kinds_of reported ++ one.kind ∷ []
+kinds-last reported one = map-append (λ (r : Reported). r.kind) reported (one ∷ [])
+
+-- the line of a level is written, and its kind is kept
+pub line_sent : (request : LevelsRequest) (n : ℕ) (listed : Listed) (judgement : Judgement) (text : List ℕ) (old new : Seen) (A : Type 0) (r : Result A RunFault) →
+    text ≡ level_line request.table request.settings n listed judgement → SendsLine text old new r → SendsJudged request n listed judgement old new r
+line_sent request n listed judgement text old new A (Ok value) is sends = subst (λ (t : List ℕ). WritesWhole old new t) is sends
+line_sent request n listed judgement text old new A (Err Write) is sends = subst (λ (t : List ℕ). WritesPart old new t) is sends
+line_sent request n listed judgement text old new A (Err OutOfMemory) is sends = absurd sends
+line_sent request n listed judgement text old new A (Err fault) is sends = absurd sends
+
+pub level_sent : {A : Type 0} (IsRight : ℕ → Result Board LevelFault → Judgement → Type 0) (request : LevelsRequest) (n : ℕ) (listed shown : Listed)
+    (judgement : Judgement) (kinds more : List Kind) (kind : Kind) (old new : Seen) (r : Result A RunFault) → shown ≡ listed →
+    IsRight n shown.board judgement → more ≡ kinds ++ kind ∷ [] → kind ≡ kind_of judgement → SendsJudged request n shown judgement old new r →
+    SendsLevel (IsLine IsRight request) n listed kinds more old new r
+level_sent {A} IsRight request n listed shown judgement kinds more kind old new r same is grown counts sends =
+    subst (λ (l : Listed). SendsLevel (IsLine IsRight request) n l kinds more old new r) same (by r sends)
+  where
+    one : Reported
+    one = record { text = level_line request.table request.settings n shown judgement; kind = kind_of judgement }
+
+    longer : more ≡ kinds ++ one.kind ∷ []
+    longer = grown ∙ ap (λ (k : Kind). kinds ++ k ∷ []) counts
+
+    by : (r : Result A RunFault) → SendsJudged request n shown judgement old new r → SendsLevel (IsLine IsRight request) n shown kinds more old new r
+    by (Ok value) sends = (one, (judgement, is, refl), sends, longer)
+    by (Err Write) sends = (one, (judgement, is, refl), sends)
+    by (Err OutOfMemory) sends = sends
+    by (Err fault) sends = absurd sends
 
 -- a line more after the first line
 line-more : (head : List ℕ) (old mid new : Seen) (reported : List Reported) (one : Reported) → WritesLines old mid (head ∷ lines_of reported) →
@@ -81,56 +71,46 @@ line-more head old mid new reported one before last =
 -- ---- levels
 
 -- how far a collection was reported: the lines of its first levels
-pub record HasReported (IsRight : ℕ → Listed → Reported → Type 0) (head : List ℕ) (from to : ℕ) (bytes : List ℕ) (left : Collection)
-    (number : ℕ) (totals : Totals) (old new : Seen) : Type 0 where
+pub record HasReported (IsRight : ℕ → Listed → Reported → Type 0) (request : LevelsRequest) (bytes : List ℕ) (left : Collection)
+    (number : ℕ) (kinds : List Kind) (old new : Seen) : Type 0 where
   pub listing : List Listed
   pub so_far : HasListed bytes left listing
   pub reported : List Reported
-  pub right : AreReported IsRight from to listing reported
+  pub right : AreReported IsRight request.from request.to listing reported
   pub counted_are : number ≡ length listing
-  pub totals_are : totals ≡ totals_of reported
-  pub few : length reported ≤ length listing
-  pub written : WritesLines old new (head ∷ lines_of reported)
+  pub kinds_are : kinds ≡ kinds_of reported
+  pub written : WritesLines old new (head_of request.table ∷ lines_of reported)
   pub room : number + lines_left left ≤ MAX_FILE
 
-pub reported_none : (IsRight : ℕ → Listed → Reported → Type 0) (head : List ℕ) (from to : ℕ) (bytes : List ℕ) (left : Collection) (totals : Totals)
-    (text : List ℕ) (old new : Seen) → HasRead bytes left [] → lines_left left ≤ MAX_FILE → text ≡ head → WritesWhole old new text →
-    totals ≡ totals_of [] → HasReported IsRight head from to bytes left 0 totals old new
-reported_none IsRight head from to bytes left totals text old new read few same written is = record {
+pub reported_none : (IsRight : ℕ → Listed → Reported → Type 0) (request : LevelsRequest) (bytes : List ℕ) (left : Collection) (kinds : List Kind)
+    (text : List ℕ) (old new : Seen) → HasRead bytes left [] → lines_left left ≤ MAX_FILE → text ≡ head_of request.table → WritesWhole old new text →
+    kinds ≡ [] → HasReported IsRight request bytes left 0 kinds old new
+reported_none IsRight request bytes left kinds text old new read few same written is = record {
   listing = [];
   so_far = record { founds = []; read = read; each = tt };
   reported = [];
   right = none;
   counted_are = refl;
-  totals_are = is;
-  few = omega arith;
-  written = runs.more new head runs.none (subst (λ (l : List ℕ). WritesWhole old new l) same written);
+  kinds_are = is;
+  written = runs.more new (head_of request.table) runs.none (subst (λ (l : List ℕ). WritesWhole old new l) same written);
   room = omega arith;
 }
 
--- the totals are few
-pub reported_few : (IsRight : ℕ → Listed → Reported → Type 0) (head : List ℕ) (from to : ℕ) (bytes : List ℕ) (left : Collection) (number : ℕ) (totals : Totals) (old new : Seen) →
-    HasReported IsRight head from to bytes left number totals old new → AreFewLevels totals
-reported_few IsRight head from to bytes left number totals old new is =
-    let counted_are = is.counted_are in let few = is.few in let room = is.room in
-    subst (λ (t : Totals). AreFewLevels t) (sym is.totals_are) (few-of is.reported (omega (arith, counted_are, few, room)))
-
 -- a level more, whose number is not in the range
-pub reported_outside : {IsRight : ℕ → Listed → Reported → Type 0} {head : List ℕ} {from to : ℕ} {bytes : List ℕ} {first : Collection} {number : ℕ}
-    {totals : Totals} {old new : Seen} (last : Collection) (entry : BoardEntry) (is : HasReported IsRight head from to bytes first number totals old new) →
-    GivesNext bytes is.so_far.founds last (Some entry) → lines_left last < lines_left first → ¬ (IsBetween from to (number + 1)) →
-    HasReported IsRight head from to bytes last (number + 1) totals old new
-reported_outside {IsRight} {head} {from} {to} {bytes} {first} {number} {totals} {old} {new} last entry is next fewer not =
-    let counted_are = is.counted_are in let long = length-append is.listing (listed_of entry ∷ []) in let room = is.room in let few = is.few in
+pub reported_outside : {IsRight : ℕ → Listed → Reported → Type 0} {request : LevelsRequest} {bytes : List ℕ} {first : Collection} {number : ℕ}
+    {kinds : List Kind} {old new : Seen} (last : Collection) (entry : BoardEntry) (is : HasReported IsRight request bytes first number kinds old new) →
+    GivesNext bytes is.so_far.founds last (Some entry) → lines_left last < lines_left first → ¬ (IsBetween request.from request.to (number + 1)) →
+    HasReported IsRight request bytes last (number + 1) kinds old new
+reported_outside {IsRight} {request} {bytes} {first} {number} {kinds} {old} {new} last entry is next fewer not =
+    let counted_are = is.counted_are in let long = length-append is.listing (listed_of entry ∷ []) in let room = is.room in
     let at : suc (length is.listing) ≡ number + 1 = omega (arith, counted_are) in
     record {
       listing = is.listing ++ listed_of entry ∷ [];
       so_far = listed-more last entry is.so_far next;
       reported = is.reported;
-      right = outside (listed_of entry) is.right (subst (λ (n : ℕ). ¬ (IsBetween from to n)) (sym at) not);
+      right = outside (listed_of entry) is.right (subst (λ (n : ℕ). ¬ (IsBetween request.from request.to n)) (sym at) not);
       counted_are = omega (arith, counted_are, long);
-      totals_are = is.totals_are;
-      few = omega (arith, long, few);
+      kinds_are = is.kinds_are;
       written = is.written;
       room = omega (arith, room, fewer);
     }
@@ -149,92 +129,89 @@ right-more IsRight from to n listing reported listed one right at in_range is =
     inside listed one right (subst (λ (k : ℕ). IsBetween from to k) at in_range) (subst (λ (k : ℕ). IsRight k listed one) at is)
 
 -- a level more, whose line was written
-pub reported_inside : {IsRight : ℕ → Listed → Reported → Type 0} {head : List ℕ} {from to : ℕ} {bytes : List ℕ} {first : Collection} {number : ℕ} {totals : Totals} {old mid : Seen}
-    (last : Collection) (entry : BoardEntry) (more : Totals) (new : Seen) (is : HasReported IsRight head from to bytes first number totals old mid) →
-    GivesNext bytes is.so_far.founds last (Some entry) → lines_left last < lines_left first → IsBetween from to (number + 1) →
-    SendsLevel IsRight (number + 1) (listed_of entry) totals mid new (Ok more) →
-    HasReported IsRight head from to bytes last (number + 1) more old new
-reported_inside {IsRight} {head} {from} {to} {bytes} {first} {number} {totals} {old} {mid} last entry more new is next fewer in_range sends =
-    let counted_are = is.counted_are in let long = length-append is.listing (listed_of entry ∷ []) in let room = is.room in let few = is.few in
+pub reported_inside : {IsRight : ℕ → Listed → Reported → Type 0} {request : LevelsRequest} {bytes : List ℕ} {first : Collection} {number : ℕ} {kinds : List Kind} {old mid : Seen}
+    (last : Collection) (entry : BoardEntry) (more : List Kind) (new : Seen) (is : HasReported IsRight request bytes first number kinds old mid) →
+    GivesNext bytes is.so_far.founds last (Some entry) → lines_left last < lines_left first → IsBetween request.from request.to (number + 1) →
+    SendsLevel {A = Unit} IsRight (number + 1) (listed_of entry) kinds more mid new (Ok tt) →
+    HasReported IsRight request bytes last (number + 1) more old new
+reported_inside {IsRight} {request} {bytes} {first} {number} {kinds} {old} {mid} last entry more new is next fewer in_range sends =
+    let counted_are = is.counted_are in let long = length-append is.listing (listed_of entry ∷ []) in let room = is.room in
     let one = sends.0 in
-    let wider = length-append is.reported (one ∷ []) in
     record {
       listing = is.listing ++ listed_of entry ∷ [];
       so_far = listed-more last entry is.so_far next;
       reported = is.reported ++ one ∷ [];
-      right = right-more IsRight from to (number + 1) is.listing is.reported (listed_of entry) one is.right
+      right = right-more IsRight request.from request.to (number + 1) is.listing is.reported (listed_of entry) one is.right
           (omega (arith, counted_are)) in_range sends.1;
       counted_are = omega (arith, counted_are, long);
-      totals_are = sends.3 ∙ ap (λ (t : Totals). counted t one.kind) is.totals_are ∙ totals-last is.reported one;
-      few = omega (arith, long, few, wider);
-      written = line-more head old mid new is.reported one is.written sends.2;
+      kinds_are = sends.3 ∙ ap (λ (ks : List Kind). ks ++ one.kind ∷ []) is.kinds_are ∙ sym (kinds-last is.reported one);
+      written = line-more (head_of request.table) old mid new is.reported one is.written sends.2;
       room = omega (arith, room, fewer);
     }
 
 -- the lines so far begin a report
-begins-report : (IsRight : ℕ → Listed → Reported → Type 0) (head : List ℕ) (from to : ℕ) (bytes : List ℕ) (left : Collection) (listing : List Listed)
-    (reported : List Reported) → HasListed bytes left listing → AreReported IsRight from to listing reported →
-    BeginsReportOnLevels IsRight head from to bytes (head ∷ lines_of reported)
-begins-report IsRight head from to bytes left listing reported so_far right = (listing, begins-of bytes left listing so_far, reported, right, refl)
+begins-report : (IsRight : ℕ → Listed → Reported → Type 0) (request : LevelsRequest) (bytes : List ℕ) (left : Collection) (listing : List Listed)
+    (reported : List Reported) → HasListed bytes left listing → AreReported IsRight request.from request.to listing reported →
+    BeginsReport IsRight request bytes (head_of request.table ∷ lines_of reported)
+begins-report IsRight request bytes left listing reported so_far right = (listing, begins-of bytes left listing so_far, reported, right, refl)
 
 -- the first line was not written whole
-pub stopped_first : (IsRight : ℕ → Listed → Reported → Type 0) (head : List ℕ) (from to : ℕ) (bytes : List ℕ) (left : Collection) (text : List ℕ)
-    (old new : Seen) (fault : RunFault) → HasRead bytes left [] → text ≡ head → SendsLine {A = Unit} text old new (Err fault) →
-    StopsByLine (BeginsReportOnLevels IsRight head from to bytes) old new fault
-stopped_first IsRight head from to bytes left text old new Write read same sends = (
+pub stopped_first : (IsRight : ℕ → Listed → Reported → Type 0) (request : LevelsRequest) (bytes : List ℕ) (left : Collection) (text : List ℕ)
+    (old new : Seen) (fault : RunFault) → HasRead bytes left [] → text ≡ head_of request.table → SendsLine {A = Unit} text old new (Err fault) →
+    StopsByLine (BeginsReport IsRight request bytes) old new fault
+stopped_first IsRight request bytes left text old new Write read same sends = (
   [],
-  head,
-  begins-report IsRight head from to bytes left [] [] (record { founds = []; read = read; each = tt }) none,
+  head_of request.table,
+  begins-report IsRight request bytes left [] [] (record { founds = []; read = read; each = tt }) none,
   record { between = old; whole = runs.none; part = subst (λ (l : List ℕ). WritesPart old new l) same sends },
 )
-stopped_first IsRight head from to bytes left text old new fault read same sends = absurd sends
+stopped_first IsRight request bytes left text old new fault read same sends = absurd sends
 
 -- memory was refused between two lines
-pub stopped_between : (IsRight : ℕ → Listed → Reported → Type 0) (head : List ℕ) (from to : ℕ) (bytes : List ℕ) (left : Collection) (number : ℕ)
-    (totals : Totals) (old new : Seen) → HasReported IsRight head from to bytes left number totals old new →
-    StopsByLine (BeginsReportOnLevels IsRight head from to bytes) old new OutOfMemory
-stopped_between IsRight head from to bytes left number totals old new is =
-    (head ∷ lines_of is.reported, begins-report IsRight head from to bytes left is.listing is.reported is.so_far is.right, is.written)
+pub stopped_between : (IsRight : ℕ → Listed → Reported → Type 0) (request : LevelsRequest) (bytes : List ℕ) (left : Collection) (number : ℕ)
+    (kinds : List Kind) (old new : Seen) → HasReported IsRight request bytes left number kinds old new →
+    StopsByLine (BeginsReport IsRight request bytes) old new OutOfMemory
+stopped_between IsRight request bytes left number kinds old new is =
+    (head_of request.table ∷ lines_of is.reported, begins-report IsRight request bytes left is.listing is.reported is.so_far is.right, is.written)
 
 -- a level could not be reported
-pub stopped_within : {IsRight : ℕ → Listed → Reported → Type 0} {head : List ℕ} {from to : ℕ} {bytes : List ℕ} {first : Collection} {number : ℕ} {totals : Totals}
-    {old mid : Seen} (last : Collection) (entry : BoardEntry) (fault : RunFault) (new : Seen)
-    (is : HasReported IsRight head from to bytes first number totals old mid) →
-    GivesNext bytes is.so_far.founds last (Some entry) → IsBetween from to (number + 1) →
-    SendsLevel IsRight (number + 1) (listed_of entry) totals mid new (Err fault) →
-    StopsByLine (BeginsReportOnLevels IsRight head from to bytes) old new fault
-stopped_within {IsRight} {head} {from} {to} {bytes} {first} {number} {totals} {old} {mid} last entry Write new is next in_range sends =
+pub stopped_within : {IsRight : ℕ → Listed → Reported → Type 0} {request : LevelsRequest} {bytes : List ℕ} {first : Collection} {number : ℕ} {kinds : List Kind}
+    {old mid : Seen} (last : Collection) (entry : BoardEntry) (fault : RunFault) (more : List Kind) (new : Seen)
+    (is : HasReported IsRight request bytes first number kinds old mid) →
+    GivesNext bytes is.so_far.founds last (Some entry) → IsBetween request.from request.to (number + 1) →
+    SendsLevel {A = Unit} IsRight (number + 1) (listed_of entry) kinds more mid new (Err fault) →
+    StopsByLine (BeginsReport IsRight request bytes) old new fault
+stopped_within {IsRight} {request} {bytes} {first} {number} {kinds} {old} {mid} last entry Write more new is next in_range sends =
     let counted_are = is.counted_are in
     let one = sends.0 in
     let so_far = listed-more last entry is.so_far next in
-    let right = right-more IsRight from to (number + 1) is.listing is.reported (listed_of entry) one is.right
+    let right = right-more IsRight request.from request.to (number + 1) is.listing is.reported (listed_of entry) one is.right
     (omega (arith, counted_are)) in_range sends.1 in (
-      head ∷ lines_of is.reported,
+      head_of request.table ∷ lines_of is.reported,
       one.text,
-      subst (λ (ls : List (List ℕ)). BeginsReportOnLevels IsRight head from to bytes (head ∷ ls)) (lines-last is.reported one)
-          (begins-report IsRight head from to bytes last (is.listing ++ listed_of entry ∷ []) (is.reported ++ one ∷ []) so_far right),
+      subst (λ (ls : List (List ℕ)). BeginsReport IsRight request bytes (head_of request.table ∷ ls)) (lines-last is.reported one)
+          (begins-report IsRight request bytes last (is.listing ++ listed_of entry ∷ []) (is.reported ++ one ∷ []) so_far right),
       record { between = mid; whole = is.written; part = sends.2 },
     )
-stopped_within {IsRight} {head} {from} {to} {bytes} {first} {number} {totals} {old} {mid} last entry OutOfMemory new is next in_range sends = (
-  head ∷ lines_of is.reported,
-  begins-report IsRight head from to bytes first is.listing is.reported is.so_far is.right,
-  subst (λ (s : Seen). WritesLines old s (head ∷ lines_of is.reported)) (sym sends) is.written,
+stopped_within {IsRight} {request} {bytes} {first} {number} {kinds} {old} {mid} last entry OutOfMemory more new is next in_range sends = (
+  head_of request.table ∷ lines_of is.reported,
+  begins-report IsRight request bytes first is.listing is.reported is.so_far is.right,
+  subst (λ (s : Seen). WritesLines old s (head_of request.table ∷ lines_of is.reported)) (sym sends) is.written,
 )
-stopped_within {IsRight} {head} {from} {to} {bytes} {first} {number} {totals} {old} {mid} last entry fault new is next in_range sends = absurd sends
+stopped_within {IsRight} {request} {bytes} {first} {number} {kinds} {old} {mid} last entry fault more new is next in_range sends = absurd sends
 
 -- no board more: the lines of all levels are written
-pub reported_all : {IsRight : ℕ → Listed → Reported → Type 0} {head : List ℕ} {from to : ℕ} {bytes : List ℕ} {first : Collection} {number : ℕ} {totals : Totals} {old new : Seen}
-    (last : Collection) (is : HasReported IsRight head from to bytes first number totals old new) → GivesNext bytes is.so_far.founds last None →
-    SendsLevels IsRight head from to bytes number totals old new
-reported_all {IsRight} {head} {from} {to} {bytes} {first} {number} {totals} {old} {new} last is all = record {
+pub reported_all : {IsRight : ℕ → Listed → Reported → Type 0} {request : LevelsRequest} {bytes : List ℕ} {first : Collection} {number : ℕ} {kinds : List Kind} {old new : Seen}
+    (last : Collection) (is : HasReported IsRight request bytes first number kinds old new) → GivesNext bytes is.so_far.founds last None →
+    SendsLevels IsRight request bytes number kinds old new
+reported_all {IsRight} {request} {bytes} {first} {number} {kinds} {old} {new} last is all = record {
   listing = is.listing;
   lists = listed-all last is.so_far all;
   begins = begins-of bytes first is.listing is.so_far;
   reported = is.reported;
   right = is.right;
   count_is = is.counted_are;
-  totals_are = is.totals_are;
-  few = reported_few IsRight head from to bytes first number totals old new is;
+  kinds_are = is.kinds_are;
   written = is.written;
 }
 
@@ -269,45 +246,47 @@ stops_by_line IsReport Begins old new OutOfMemory stops = stops
 stops_by_line IsReport Begins old new fault stops = absurd stops
 
 -- memory was refused after them
-pub stopped_last : (IsRight : ℕ → Listed → Reported → Type 0) (head : List ℕ) (from to : ℕ) (bytes : List ℕ) (count : ℕ) (totals : Totals) (old new : Seen) →
-    SendsLevels IsRight head from to bytes count totals old new → StopsByLine (BeginsReportOnLevels IsRight head from to bytes) old new OutOfMemory
-stopped_last IsRight head from to bytes count totals old new is =
-    (head ∷ lines_of is.reported, (is.listing, is.begins, is.reported, is.right, refl), is.written)
+pub stopped_last : (IsRight : ℕ → Listed → Reported → Type 0) (request : LevelsRequest) (bytes : List ℕ) (count : ℕ) (kinds : List Kind) (old new : Seen) →
+    SendsLevels IsRight request bytes count kinds old new → StopsByLine (BeginsReport IsRight request bytes) old new OutOfMemory
+stopped_last IsRight request bytes count kinds old new is =
+    (head_of request.table ∷ lines_of is.reported, (is.listing, is.begins, is.reported, is.right, refl), is.written)
 
 -- the last line ends the report, or is not written whole
-pub sent_last : (IsRight : ℕ → Listed → Reported → Type 0) (head : List ℕ) (last : List Reported → List ℕ) (from to : ℕ) (bytes : List ℕ) (count : ℕ)
-    (totals : Totals) (old mid new : Seen) (result : Result ℕ RunFault) (is : SendsLevels IsRight head from to bytes count totals old mid) →
-    SendsLast from (length is.listing) (last is.reported) (worst_status is.reported) mid new result →
-    SendsByLine (IsReportOnLevels IsRight head last from to bytes) (BeginsReportOnLevels IsRight head from to bytes) old new result
-sent_last IsRight head last from to bytes count totals old mid new (Ok status) is sends = (
-  (head ∷ lines_of is.reported) ++ sends.0 ∷ [],
+pub sent_last : (IsRight : ℕ → Listed → Reported → Type 0) (given : Bool) (request : LevelsRequest) (bytes : List ℕ) (count : ℕ)
+    (kinds : List Kind) (old mid new : Seen) (result : Result ℕ RunFault) (is : SendsLevels IsRight request bytes count kinds old mid) →
+    SendsLast request.from (length is.listing) (last_line given request (kinds_of is.reported)) (worst_status (kinds_of is.reported)) mid new result →
+    SendsByLine (IsReport IsRight given request bytes) (BeginsReport IsRight request bytes) old new result
+sent_last IsRight given request bytes count kinds old mid new (Ok status) is sends = (
+  (head_of request.table ∷ lines_of is.reported) ++ sends.0 ∷ [],
   (is.listing, is.lists, is.reported, is.right, sends.0, sends.1, refl),
   runs.more new sends.0 is.written sends.2,
 )
-sent_last IsRight head last from to bytes count totals old mid new (Err Write) is sends = (
-  head ∷ lines_of is.reported,
+sent_last IsRight given request bytes count kinds old mid new (Err Write) is sends = (
+  head_of request.table ∷ lines_of is.reported,
   sends.0,
   inr (sends.1, (is.listing, is.lists, is.reported, is.right, sends.0, sends.2, refl)),
   record { between = mid; whole = is.written; part = sends.3 },
 )
-sent_last IsRight head last from to bytes count totals old mid new (Err OutOfMemory) is sends = (
-  head ∷ lines_of is.reported,
+sent_last IsRight given request bytes count kinds old mid new (Err OutOfMemory) is sends = (
+  head_of request.table ∷ lines_of is.reported,
   (is.listing, is.begins, is.reported, is.right, refl),
-  subst (λ (s : Seen). WritesLines old s (head ∷ lines_of is.reported)) (sym sends) is.written,
+  subst (λ (s : Seen). WritesLines old s (head_of request.table ∷ lines_of is.reported)) (sym sends) is.written,
 )
-sent_last IsRight head last from to bytes count totals old mid new (Err fault) is sends = absurd sends
+sent_last IsRight given request bytes count kinds old mid new (Err fault) is sends = absurd sends
 
--- the text and the status of the last line are by the totals
-pub sent_all : (IsRight : ℕ → Listed → Reported → Type 0) (head : List ℕ) (last : List Reported → List ℕ) (from to : ℕ) (bytes : List ℕ) (count : ℕ)
-    (totals : Totals) (old mid new : Seen) (text words : List ℕ) (worst : ℕ) (result : Result ℕ RunFault) →
-    SendsLevels IsRight head from to bytes count totals old mid → ((reported : List Reported) → totals ≡ totals_of reported → text ≡ last reported) →
-    words ≡ text → worst ≡ status_of totals → SendsLast from count words worst mid new result →
-    SendsByLine (IsReportOnLevels IsRight head last from to bytes) (BeginsReportOnLevels IsRight head from to bytes) old new result
-sent_all IsRight head last from to bytes count totals old mid new text words worst result is same shown status sends =
-    let by_text = subst (λ (l : List ℕ). SendsLast from count l worst mid new result) (shown ∙ same is.reported is.totals_are) sends in
-    let by_status = subst (λ (s : ℕ). SendsLast from count (last is.reported) s mid new result) (status ∙ ap status_of is.totals_are) by_text in
-    sent_last IsRight head last from to bytes count totals old mid new result is
-    (subst (λ (n : ℕ). SendsLast from n (last is.reported) (worst_status is.reported) mid new result) is.count_is by_status)
+-- the text and the status of the last line are by the kinds
+pub sent_all : (IsRight : ℕ → Listed → Reported → Type 0) (given : Bool) (request : LevelsRequest) (bytes : List ℕ) (count : ℕ)
+    (kinds : List Kind) (old mid new : Seen) (words : List ℕ) (worst : ℕ) (result : Result ℕ RunFault) →
+    SendsLevels IsRight request bytes count kinds old mid → words ≡ last_line given request kinds → worst ≡ worst_status kinds →
+    SendsLast request.from count words worst mid new result →
+    SendsByLine (IsReport IsRight given request bytes) (BeginsReport IsRight request bytes) old new result
+sent_all IsRight given request bytes count kinds old mid new words worst result is shown status sends =
+    let by_text = subst (λ (l : List ℕ). SendsLast request.from count l worst mid new result) (shown ∙ ap (last_line given request) is.kinds_are) sends in
+    let by_status = subst (λ (w : ℕ). SendsLast request.from count (last_line given request (kinds_of is.reported)) w mid new result)
+    (status ∙ ap worst_status is.kinds_are) by_text in
+    sent_last IsRight given request bytes count kinds old mid new result is
+    (subst (λ (n : ℕ). SendsLast request.from n (last_line given request (kinds_of is.reported)) (worst_status (kinds_of is.reported)) mid new result)
+    is.count_is by_status)
 
 -- an error that is passed on
 pub err_is : {T E : Type 0} (P : E → Type 0) (r : Result T E) (fault : E) → r ≡ Err fault → P fault → IfErr r P

@@ -2,7 +2,7 @@ mod Acts
 mod ByLine
 mod Exiting
 mod Explanations
-mod Folders
+mod Judged
 mod Judging
 mod Listings
 mod Maps

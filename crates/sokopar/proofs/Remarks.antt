@@ -18,7 +18,7 @@ use Rattle.grid.proofs.lemmas.Places.{contains-first}
 use Rattle.grid.proofs.lemmas.Steps.{inside_grid}
 use Rattle.grid.proofs.lemmas.Squares.{contains-get_or, contains-push_cases}
 use Rattle.std.proofs.lemmas.List.{take_more}
-use Rattle.sokopar.specs.Best.{IsUnsolvable}
+use Rattle.sokopar.specs.Judging.{IsUnsolvable}
 use Rattle.sokopar.specs.Explaining.{AreDeadOf, IsRemarkOnFault, no_box, on_dead, on_live}
 use Rattle.sokopar.specs.declared.remark.Remark.TheVariants.{Players, Unequal}
 use Rattle.sokopar.specs.inside.Explaining.{AreAmong, AreFrozen, is_open, is_unequal}

@@ -1,14 +1,19 @@
 -- The report on a level of a collection, by its number.
-use Rattle.std.proofs.Common.{◌≡◌, ℕ, List, Option, Some, None, Result, Ok, Err, IfOk, IfErr, ◌⊎◌, inr, refl, sym, ◌∙◌, subst}
+use Rattle.std.proofs.Common.{◌≡◌, ℕ, Bool, true, List, Option, Some, None, Result, Ok, Err, IfOk, IfErr, ◌⊎◌, inl, inr, refl, sym, ap, ◌∙◌, subst}
 use Rattle.grid.specs.Board.{Board}
 use Rattle.grid.specs.declared.fault.LevelFault.{LevelFault}
+use Rattle.judging.specs.declared.judgement.Judgement.{Judgement}
+use Rattle.judging.specs.declared.judgement.Settings.{Settings}
 use Rattle.sokopar.specs.Ends.{Seen}
+use Rattle.sokopar.specs.Judging.{IsJudgedOn}
 use Rattle.sokopar.specs.Listing.{IsLevelListing, IsLevelOf, Listed, level_at}
+use Rattle.sokopar.specs.OneLevel.{IsLevelReport, IsWhole, ReportsJudged, level_report}
 use Rattle.sokopar.specs.Report.{Report, ReportsOn, ReportsOnText, fault_report, no_level}
 use Rattle.sokopar.specs.Runs.{ReadsIfSome, ReadsWhole, Stops}
 use Rattle.sokopar.specs.declared.fault.RunFault.{RunFault}
 use Rattle.sokopar.specs.declared.fault.RunFault.TheVariants.{OutOfMemory}
 use Rattle.sokopar.specs.inside.Parts.{HasChosen}
+use Rattle.sokopar.proofs.Reading.{stops_after}
 
 -- a level, by one of the listings of a file
 abbrev pub IsAt : List ℕ → ℕ → Option (Result Board LevelFault) → Type 0
@@ -84,3 +89,59 @@ text_stopped bytes n chosen board old new (Err fault) has is stops = inr (board,
 
 -- the report on the level and the text that was read, or that of another level
 pub ruleset on_text = (text_level, text_none, text_stopped)
+
+-- ---- a judged level
+
+pub judged_none : {E : Type 0} (given : Bool) (set : Settings) (bytes : List ℕ) (n : ℕ) (level : Option (Result Board LevelFault))
+    (result : Result Report E) → IsAt bytes n level → level ≡ None → IfOk result (λ report. report ≡ no_level n) →
+    IfOk result (λ report. IsLevelReport given set n bytes None report)
+judged_none given set bytes n level (Ok report) has is told =
+    (has.0, has.1, subst (λ at. ReportsJudged given set n at None report) (sym is ∙ has.2) (refl, told))
+judged_none given set bytes n level (Err e) has is told = tt
+
+pub judged_some : {E : Type 0} (given : Bool) (set : Settings) (bytes : List ℕ) (n : ℕ) (level : Option (Result Board LevelFault))
+    (board : Result Board LevelFault) (text : Option (List ℕ)) (judgement : Judgement) (result : Result Report E) → IsAt bytes n level →
+    level ≡ Some board → IsJudgedOn given set board text judgement →
+    IfOk result (λ report. IsWhole judgement × (report ≡ level_report set judgement)) →
+    IfOk result (λ report. IsLevelReport given set n bytes text report)
+judged_some given set bytes n level board text judgement (Ok report) has is right told =
+    (has.0, has.1, subst (λ at. ReportsJudged given set n at text report) (sym is ∙ has.2) (judgement, right, told.0, told.1))
+judged_some given set bytes n level board text judgement (Err e) has is right told = tt
+
+-- the report of `best`
+pub ruleset judged = (judged_none, judged_some)
+
+-- of `prove`: there is no such level
+pub given_none : (set : Settings) (bytes : List ℕ) (n : ℕ) (level : Option (Result Board LevelFault)) (report : Report) (seen : Seen) →
+    IsAt bytes n level → level ≡ None → report ≡ no_level n →
+    (text : Option (List ℕ)) × ReadsIfSome seen seen text × IsLevelReport true set n bytes text report
+given_none set bytes n level report seen has is told =
+    (None, refl, (has.0, has.1, subst (λ at. ReportsJudged true set n at None report) (sym is ∙ has.2) (refl, told)))
+
+-- the level and its solution are judged
+pub given_some : (set : Settings) (bytes : List ℕ) (n : ℕ) (level : Option (Result Board LevelFault)) (board : Result Board LevelFault)
+    (judgement : Judgement) (report : Report) (old new : Seen) → IsAt bytes n level → level ≡ Some board →
+    ((text : Option (List ℕ)) × ReadsIfSome old new text × IsJudgedOn true set board text judgement) →
+    IsWhole judgement × (report ≡ level_report set judgement) →
+    (text : Option (List ℕ)) × ReadsIfSome old new text × IsLevelReport true set n bytes text report
+given_some set bytes n level board judgement report old new has is (text, reads, right) told =
+    (text, reads, (has.0, has.1, subst (λ at. ReportsJudged true set n at text report) (sym is ∙ has.2) (judgement, right, told.0, told.1)))
+
+-- reading the solution stopped
+pub given_stopped : (bytes : List ℕ) (n : ℕ) (level : Option (Result Board LevelFault)) (board : Result Board LevelFault) (fault : RunFault)
+    (old new : Seen) → IsAt bytes n level → level ≡ Some board → ((lawful : Board) × (board ≡ Ok lawful)) × Stops old new fault →
+    ((fault ≡ OutOfMemory) × (new ≡ old)) ⊎ ((board : Board) × IsLevelOf bytes n board × Stops old new fault)
+given_stopped bytes n level board fault old new has is ((lawful, same), stops) =
+    inr (lawful, (has.0, has.1, sym has.2 ∙ is ∙ ap (λ (b : Result Board LevelFault). Some b) same), stops)
+
+-- memory ran out after the solution was judged
+pub given_unreported : (set : Settings) (bytes : List ℕ) (n : ℕ) (level : Option (Result Board LevelFault)) (board : Result Board LevelFault)
+    (judgement : Judgement) (old new : Seen) → IsAt bytes n level → level ≡ Some board →
+    ((text : Option (List ℕ)) × ReadsIfSome old new text × IsJudgedOn true set board text judgement) →
+    ((OutOfMemory ≡ OutOfMemory) × (new ≡ old)) ⊎ ((board : Board) × IsLevelOf bytes n board × Stops old new OutOfMemory)
+given_unreported set bytes n level (Ok lawful) judgement old new has is (text, reads, (read, same, right)) =
+    inr (lawful, (has.0, has.1, sym has.2 ∙ is), stops_after old new read (subst (λ (t : Option (List ℕ)). ReadsIfSome old new t) same reads))
+given_unreported set bytes n level (Err fault) judgement old new has is (text, reads, (same, right)) =
+    inl (refl, subst (λ (t : Option (List ℕ)). ReadsIfSome old new t) same reads)
+
+pub ruleset judged_given = (given_none, given_some, given_stopped, given_unreported)

@@ -23,7 +23,7 @@ use Rattle.xsb.specs.declared.breaks.Cause.TheVariants.{Byte, ZeroCount, LongCou
 use Rattle.xsb.specs.declared.places.Excess.{Excess}
 use Rattle.xsb.specs.declared.places.Excess.TheVariants.{Rows, Columns}
 use Rattle.xsb.specs.declared.places.RowPlace.{RowPlace}
-use Rattle.sokopar.specs.Best.{IsUnsolvable}
+use Rattle.sokopar.specs.Judging.{IsUnsolvable}
 use Rattle.sokopar.specs.DeadMap.{IsMark, marked_row}
 use Rattle.sokopar.specs.Listing.{Listed, IsLevelListing}
 use Rattle.sokopar.specs.Report.{Report, check_line, good_count, line, no_level}

@@ -1,14 +1,72 @@
--- Reports with a line for each level of a collection.
-use Rattle.std.specs.Prelude.{◌≡◌, ℕ, suc, ◌+◌, ◌<◌, ◌≤◌, ◌==◌, ◌||◌, if◌then◌else◌, Bool, false}
-use Rattle.std.specs.Prelude.{List, [], ◌∷◌, ◌++◌, length, map, count_by}
+-- Reports of `best` and `prove` with a line for each level of a collection.
+use Rattle.std.specs.Prelude.{◌≡◌, ℕ, suc, ◌<◌, ◌≤◌, Bool, true, false, cond, List, [], ◌∷◌, ◌++◌, length, map}
+use Rattle.std.specs.Prelude.{Option, Some, None, Result, Ok, Err}
 use Rattle.std.specs.List.{AllZip}
+use Rattle.grid.specs.Board.{Board}
+use Rattle.grid.specs.declared.fault.LevelFault.{LevelFault}
 use Rattle.xsb.specs.Collection.{Found, IsCollection}
+use Rattle.judging.specs.Kinds.{kind_of, totals_words, worst_status}
+use Rattle.judging.specs.Table.{head_of, level_line}
+use Rattle.judging.specs.declared.judgement.Judgement.{Judgement}
+use Rattle.judging.specs.declared.judgement.Judgement.TheVariants as is
+use Rattle.judging.specs.declared.judgement.Settings.{Settings}
+use Rattle.judging.specs.declared.kind.Kind.{Kind}
+use Rattle.sokopar.specs.Ends.{Seen}
+use Rattle.sokopar.specs.Judging.{IsJudgedOn}
 use Rattle.sokopar.specs.Listing.{Listed, IsListed, IsLevelListing}
 use Rattle.sokopar.specs.Report.{no_level}
-use Rattle.sokopar.specs.declared.reported.Kind.{Kind}
-use Rattle.sokopar.specs.declared.reported.Kind.TheVariants.{Optimal, Unsolved, Beaten, Open, OutOfMemory}
-use Rattle.sokopar.specs.declared.reported.Kind.TheVariants.{NotJudged, CannotRead, Missing}
-use Rattle.sokopar.specs.declared.reported.Reported.{Reported}
+use Rattle.sokopar.specs.Runs.{ReadsIfSome, Stops}
+use Rattle.sokopar.specs.declared.fault.RunFault.{RunFault}
+use Rattle.sokopar.specs.declared.fault.RunFault.TheVariants as run
+use Rattle.sokopar.specs.declared.proving.LevelsRequest.{LevelsRequest}
+
+-- ---- a level
+
+-- what a report has of a level: its line, and how the level counts
+pub record Reported : Type 0 where
+  pub text : List ℕ
+  pub kind : Kind
+
+-- level n is reported by a judgement for which `IsRight` holds
+abbrev pub IsLine : (ℕ → Result Board LevelFault → Judgement → Type 0) → LevelsRequest → ℕ → Listed → Reported → Type 0
+IsLine IsRight request n listed one =
+    (judgement : Judgement) × IsRight n listed.board judgement ×
+    (one ≡ record { text = level_line request.table request.settings n listed judgement; kind = kind_of judgement })
+
+-- of `best`: a right judgement without a solution
+abbrev pub IsBestLine : LevelsRequest → ℕ → Listed → Reported → Type 0
+IsBestLine request = IsLine (λ n board judgement. IsJudgedOn false request.settings board None judgement) request
+
+-- the judgement of a solution if opening or reading it stopped for a fault
+abbrev pub stopped_by : RunFault → Judgement
+stopped_by run.OutOfMemory = is.OutOfMemory None None
+stopped_by fault = is.CannotRead
+
+-- the judgement of the solution in a file is right: that of what was read, or that reading it stopped. `seen` is what
+-- contracts see of a file
+pub data IsJudgedFile {File : Type 0} (seen : File → Seen) (set : Settings) (board : Result Board LevelFault) (file : File)
+    (judgement : Judgement) : Type 0 where
+  unread : (read : File) (fault : RunFault) → Stops (seen file) (seen read) fault → judgement ≡ stopped_by fault →
+      IsJudgedFile seen set board file judgement
+  judged : (read : File) (text : Option (List ℕ)) → ReadsIfSome (seen file) (seen read) text →
+      IsJudgedOn true set board text judgement → IsJudgedFile seen set board file judgement
+
+-- the judgement of the solution of level n is right, by what opening it gave: there is none; or opening it failed; or it
+-- is in a file, from which nothing was read before. `opened` states what opening the solution of a level gave
+pub data IsJudgedFrom {File : Type 0} (opened : ℕ → Result (Option File) RunFault → Type 0) (seen : File → Seen)
+    (set : Settings) (n : ℕ) (board : Result Board LevelFault) (judgement : Judgement) : Type 0 where
+  missing : opened n (Ok None) → judgement ≡ is.Missing → IsJudgedFrom opened seen set n board judgement
+  unopened : (fault : RunFault) → opened n (Err fault) → judgement ≡ stopped_by fault →
+      IsJudgedFrom opened seen set n board judgement
+  proved : (file : File) → opened n (Ok (Some file)) → (seen file).acts ≡ [] →
+      IsJudgedFile seen set board file judgement → IsJudgedFrom opened seen set n board judgement
+
+-- of `prove` of a folder: a right judgement of its solution
+abbrev pub IsProveLine : {File : Type 0} → (ℕ → Result (Option File) RunFault → Type 0) → (File → Seen) →
+    LevelsRequest → ℕ → Listed → Reported → Type 0
+IsProveLine opened seen request = IsLine (IsJudgedFrom opened seen request.settings) request
+
+-- ---- all levels
 
 -- a number is in a range, both ends included
 abbrev pub IsBetween : ℕ → ℕ → ℕ → Type 0
@@ -26,62 +84,32 @@ pub data AreReported (IsRight : ℕ → Listed → Reported → Type 0) (from to
       IsRight (suc (length listing)) listed one →
       AreReported IsRight from to (listing ++ listed ∷ []) (reported ++ one ∷ [])
 
--- the lines of some levels
+-- the lines of some levels, and how they count
 abbrev pub lines_of : List Reported → List (List ℕ)
 lines_of reported = map (λ one. one.text) reported
 
--- a number for each kind, by which two kinds are compared
-abbrev pub kind_number : Kind → ℕ
-kind_number Optimal = 0
-kind_number Unsolved = 1
-kind_number Beaten = 2
-kind_number Open = 3
-kind_number OutOfMemory = 4
-kind_number NotJudged = 5
-kind_number CannotRead = 6
-kind_number Missing = 7
+abbrev pub kinds_of : List Reported → List Kind
+kinds_of reported = map (λ one. one.kind) reported
 
--- the kind is one of these
-abbrev pub is_one_of : List Kind → Kind → Bool
-is_one_of [] kind = false
-is_one_of (one ∷ kinds) kind = kind_number kind == kind_number one || is_one_of kinds kind
+-- the last line of a report on some levels: their totals, except in a table
+abbrev pub last_line : Bool → LevelsRequest → List Kind → List ℕ
+last_line given request kinds = cond request.table [] (totals_words given request.settings.cap kinds)
 
--- how many levels have one of these kinds
-abbrev pub count_of : List Kind → List Reported → ℕ
-count_of kinds reported = count_by (λ one. is_one_of kinds one.kind) reported
-
--- the exit status of one level
-abbrev pub kind_status : Kind → ℕ
-kind_status Optimal = 0
-kind_status Missing = 0
-kind_status CannotRead = 3
-kind_status Open = 4
-kind_status OutOfMemory = 5
-kind_status kind = 1
-
--- the exit status of some levels: 0 if all are optimal, except those without a given solution; else 5 if a search ran
--- out of memory, else 3 if a given solution cannot be read, else 4 if a search ended at its limit, else 1
-abbrev pub worst_status : List Reported → ℕ
-worst_status reported =
-    if count_of (Optimal ∷ []) reported + count_of (Missing ∷ []) reported == length reported then 0 else if
-    count_of (OutOfMemory ∷ []) reported == 0 then (if count_of (CannotRead ∷ []) reported == 0 then
-    (if count_of (Open ∷ OutOfMemory ∷ []) reported == 0 then 1 else 4) else 3) else 5
-
--- the last line and the exit status of a report on levels from a number on, by the number of levels of the collection:
--- that there is no level of this number, if there are fewer; else this line and this status
+-- the last line and the exit status, by the number of levels of the collection: that there is no level of the first
+-- number of the range, if there are fewer; else this line and this status
 pub data EndsWith (from count : ℕ) (last : List ℕ) (worst : ℕ) : List ℕ → ℕ → Type 0 where
   beyond : count < from → EndsWith from count last worst (no_level from).text (no_level from).status
   within : from ≤ count → EndsWith from count last worst last worst
 
--- the lines and the status are the report of the levels of these bytes with numbers in a range: a head line, the line
--- of each level, and the last line; a line may be empty, and then nothing is written of it
-abbrev pub IsReportOnLevels : (ℕ → Listed → Reported → Type 0) → List ℕ → (List Reported → List ℕ) → ℕ → ℕ → List ℕ →
-    List (List ℕ) → ℕ → Type 0
-IsReportOnLevels IsRight head last from to bytes lines status =
+-- the lines and the status are the report of the levels of these bytes with numbers in the range of a request: a head
+-- line, the line of each level, and the last line; a line may be empty, and then nothing is written of it
+abbrev pub IsReport : (ℕ → Listed → Reported → Type 0) → Bool → LevelsRequest → List ℕ → List (List ℕ) → ℕ → Type 0
+IsReport IsRight given request bytes lines status =
     (listing : List Listed) × IsLevelListing bytes listing × (reported : List Reported) ×
-    AreReported IsRight from to listing reported × (end : List ℕ) ×
-    EndsWith from (length listing) (last reported) (worst_status reported) end status ×
-    (lines ≡ (head ∷ lines_of reported) ++ end ∷ [])
+    AreReported IsRight request.from request.to listing reported × (end : List ℕ) ×
+    EndsWith request.from (length listing) (last_line given request (kinds_of reported))
+    (worst_status (kinds_of reported)) end status ×
+    (lines ≡ (head_of request.table ∷ lines_of reported) ++ end ∷ [])
 
 -- the levels are the first ones of the collection of these bytes
 pub record BeginsListing (bytes : List ℕ) (listing : List Listed) : Type 0 where
@@ -91,7 +119,8 @@ pub record BeginsListing (bytes : List ℕ) (listing : List Listed) : Type 0 whe
   pub each : AllZip IsListed listing founds
 
 -- the lines are the first ones of such a report: the head, and those of the levels so far
-abbrev pub BeginsReportOnLevels : (ℕ → Listed → Reported → Type 0) → List ℕ → ℕ → ℕ → List ℕ → List (List ℕ) → Type 0
-BeginsReportOnLevels IsRight head from to bytes lines =
+abbrev pub BeginsReport : (ℕ → Listed → Reported → Type 0) → LevelsRequest → List ℕ → List (List ℕ) → Type 0
+BeginsReport IsRight request bytes lines =
     (listing : List Listed) × BeginsListing bytes listing × (reported : List Reported) ×
-    AreReported IsRight from to listing reported × (lines ≡ head ∷ lines_of reported)
+    AreReported IsRight request.from request.to listing reported ×
+    (lines ≡ head_of request.table ∷ lines_of reported)

@@ -5,13 +5,9 @@ pub mod Entries
 pub mod Report
 pub mod Runs
 pub mod Solving
-pub mod Moves
-pub mod Best
+pub mod Judging
+pub mod OneLevel
 pub mod Levels
-pub mod Table
-pub mod Collection
-pub mod Proving
-pub mod Folder
 pub mod OneReport
 pub mod OneAtMost
 pub mod Retelling

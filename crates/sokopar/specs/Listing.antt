@@ -4,12 +4,7 @@ use Rattle.std.specs.List.{AllZip}
 use Rattle.grid.specs.Board.{Board}
 use Rattle.grid.specs.declared.fault.LevelFault.{LevelFault}
 use Rattle.xsb.specs.Collection.{Found, IsCollection, IsJudged}
-
--- a board of a collection: its name, the number of its first line, and the level or the first fault of its cells
-pub record Listed : Type 0 where
-  pub name : List ℕ
-  pub first_line : ℕ
-  pub board : Result Board LevelFault
+pub use Rattle.judging.specs.Table.{Listed}
 
 -- the entry has the name and the first line of the board found, and the judgement of its cells
 pub record IsListed (listed : Listed) (found : Found) : Type 0 where

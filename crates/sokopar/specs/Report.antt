@@ -16,16 +16,13 @@ use Rattle.lurd.specs.declared.fault.LurdFault.TheVariants as text
 use Rattle.lurd.specs.declared.verdict.Verdict.{Verdict}
 use Rattle.lurd.specs.declared.verdict.Verdict.TheVariants as verdict
 use Rattle.xsb.specs.Written.{written}
+pub use Rattle.judging.specs.Words.{counts_words, fault_words, line, text_fault_words, verdict_words}
 use Rattle.sokopar.specs.Listing.{Listed, IsLevelListing, level_at}
 
 -- what is written, byte by byte, and the exit status: 0 for good, 4 if a search passed its limit, 1 otherwise
 pub record Report : Type 0 where
   pub text : List ℕ
   pub status : ℕ
-
--- a line ends with a line feed
-abbrev pub line : List ℕ → List ℕ
-line words = words ++ 10 ∷ []
 
 -- the bytes after the first line
 abbrev pub after_line : List ℕ → List ℕ
@@ -52,17 +49,6 @@ WrittenOfTwo lurd IsReport bytes solution = IsWrittenOf lurd (IsReport bytes sol
 -- a report of one line
 abbrev pub one_line : List ℕ → ℕ → Report
 one_line words status = record { text = line words; status = status }
-
--- how a fault is reported: its number and its name, and the numbers of boxes and goals if they differ
-abbrev pub fault_words : LevelFault → List ℕ
-fault_words level.TooTall = codes "fault 1 TooTall"
-fault_words level.TooWide = codes "fault 2 TooWide"
-fault_words level.NoPlayer = codes "fault 3 NoPlayer"
-fault_words level.TwoPlayers = codes "fault 4 TwoPlayers"
-fault_words level.NoBox = codes "fault 5 NoBox"
-fault_words (level.Counts boxes goals) = codes "fault 6 Counts " ++ decimal boxes ++ codes " " ++ decimal goals
-fault_words level.Open = codes "fault 7 Open"
-fault_words level.OutOfMemory = codes "fault 8 OutOfMemory"
 
 -- how a judged board is reported: a lawful level by its rows, columns and boxes
 abbrev pub judged_words : Result Board LevelFault → List ℕ
@@ -118,22 +104,6 @@ ReportsOn Has n (Some (Ok board)) report = Has board report
 abbrev pub IsShown : Board → Report → Type 0
 IsShown board report = report ≡ record { text = written board; status = 0 }
 
--- the numbers of pushes and of moves
-abbrev pub counts_words : ℕ → ℕ → List ℕ
-counts_words pushes moves = decimal pushes ++ codes " pushes, " ++ decimal moves ++ codes " moves"
-
--- the cap of pushes in digits, if one is set
-abbrev pub cap_words : Option ℕ → List ℕ
-cap_words None = []
-cap_words (Some most) = decimal most
-
--- a verdict on a solution in words
-abbrev pub verdict_words : Verdict → List ℕ
-verdict_words (verdict.Solved pushes moves) = codes "solved " ++ counts_words pushes moves
-verdict_words (verdict.Unsolved pushes moves) = codes "unsolved " ++ counts_words pushes moves
-verdict_words (verdict.Blocked at) = codes "blocked at " ++ decimal at
-verdict_words (verdict.WrongCase at) = codes "wrong case at " ++ decimal at
-
 -- the exit status of a verdict
 abbrev pub verdict_status : Verdict → ℕ
 verdict_status (verdict.Solved pushes moves) = 0
@@ -143,28 +113,16 @@ verdict_status other = 1
 abbrev pub verdict_report : Verdict → Report
 verdict_report judged = one_line (verdict_words judged) (verdict_status judged)
 
--- a fault in the text of a solution in words
-abbrev pub text_fault_words : LurdFault → List ℕ
-text_fault_words (text.BadByte at) = codes "bad byte at " ++ decimal at
-text_fault_words (text.BadCount at) = codes "bad count at " ++ decimal at
-text_fault_words text.TooManyMoves = codes "too many moves"
-text_fault_words text.OutOfMemory = codes "out of memory"
-
 -- the report where the text of a solution has a fault
 abbrev pub text_fault_report : LurdFault → Report
 text_fault_report fault = one_line (text_fault_words fault) 1
 
--- the report on the text of a solution of a lawful level: the first fault of the text, or what is reported of the
--- verdict on its letters
-abbrev pub IsOfText : (Board → Verdict → Report → Type 0) → Board → List ℕ → Report → Type 0
-IsOfText Reports board solution report =
-    ((letters : List Letter) × (v : Verdict) × IsText solution letters × IsVerdict board letters v ×
-    Reports board v report) ⊎
-    ((fault : LurdFault) × HasTextFault solution fault × (report ≡ text_fault_report fault))
-
--- the report of replaying a text on a lawful level: the verdict on its letters
+-- the report of replaying a text on a lawful level: the verdict on its letters, or the first fault of the text
 abbrev pub IsReplayOf : Board → List ℕ → Report → Type 0
-IsReplayOf board solution report = IsOfText (λ b v r. r ≡ verdict_report v) board solution report
+IsReplayOf board solution report =
+    ((letters : List Letter) × (v : Verdict) × IsText solution letters × IsVerdict board letters v ×
+    (report ≡ verdict_report v)) ⊎
+    ((fault : LurdFault) × HasTextFault solution fault × (report ≡ text_fault_report fault))
 
 -- the report on level n of a listing and a solution, which is read exactly where the level is lawful
 abbrev pub ReportsOnText : (Board → List ℕ → Report → Type 0) → ℕ → Option (Result Board LevelFault) → Option (List ℕ)

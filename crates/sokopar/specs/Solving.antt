@@ -6,7 +6,8 @@ use Rattle.solo.specs.Answers.{IsAnswer}
 use Rattle.solo.specs.declared.answer.Answer.{Answer}
 use Rattle.solo.specs.declared.answer.Answer.TheVariants.{Solved, Unsolvable, NoneWithin, Limit}
 use Rattle.sokopar.specs.Listing.{Listed, IsLevelListing, level_at}
-use Rattle.sokopar.specs.Report.{Report, ReportsOn, IsSearchOf, cap_words, line, one_line, counts_words}
+use Rattle.judging.specs.Words.{none_words}
+use Rattle.sokopar.specs.Report.{Report, ReportsOn, IsSearchOf, line, one_line, counts_words}
 
 -- a number of positions
 abbrev pub positions_words : ℕ → List ℕ
@@ -21,7 +22,7 @@ answer_report cap limit (Solved moves pushes positions) = record {
 }
 answer_report cap limit (Unsolvable positions) = one_line (codes "unsolvable" ++ positions_words positions) 1
 answer_report cap limit (NoneWithin positions) =
-    one_line (codes "none within " ++ cap_words cap ++ codes " pushes" ++ positions_words positions) 1
+    one_line (none_words cap ++ positions_words positions) 1
 answer_report cap limit Limit = one_line (codes "limit " ++ decimal limit ++ codes " reached") 4
 
 -- the report of an answer to a level under a cap of pushes and a limit of positions

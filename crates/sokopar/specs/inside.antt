@@ -2,6 +2,5 @@
 pub mod Sending
 pub mod Trail
 pub mod Parts
-pub mod Totals
 pub mod Explaining
 pub mod Pages

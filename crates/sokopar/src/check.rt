@@ -4,8 +4,8 @@ ghost use Rattle.sokopar.specs.Report.{fault_words, judged_words, named, line, c
 ghost use Rattle.sokopar.specs.inside.Parts.{is_good};
 
 use crate::report::Report;
-use crate::text::Text;
 use grid::{Board, LevelFault};
+use judging::{FaultWords, Text};
 use std::alloc::{AllocError, Global};
 use xsb::{BoardEntry, Collection, MAX_FILE};
 
@@ -13,21 +13,7 @@ use xsb::{BoardEntry, Collection, MAX_FILE};
 pub(crate) fn put_fault(text: &mut Text, fault: LevelFault) -> Result<(), AllocError>
     ensures { OnOk result (text.new ≡ text.old ++ fault_words fault) }
 {
-    match fault {
-        LevelFault::TooTall => text.put(b"fault 1 TooTall"),
-        LevelFault::TooWide => text.put(b"fault 2 TooWide"),
-        LevelFault::NoPlayer => text.put(b"fault 3 NoPlayer"),
-        LevelFault::TwoPlayers => text.put(b"fault 4 TwoPlayers"),
-        LevelFault::NoBox => text.put(b"fault 5 NoBox"),
-        LevelFault::Counts { boxes, goals } => {
-            text.put(b"fault 6 Counts ")?;
-            text.put_number(boxes)?;
-            text.put(b" ")?;
-            text.put_number(goals)
-        }
-        LevelFault::Open => text.put(b"fault 7 Open"),
-        LevelFault::OutOfMemory => text.put(b"fault 8 OutOfMemory"),
-    }
+    text.show(&FaultWords(fault))
 }
 
 /// Appends the words of a lawful level, given its board.

@@ -6,9 +6,9 @@ ghost use Rattle.xsb.specs.Written.{rows_from};
 
 use crate::report::Report;
 use crate::show::lawful_level;
-use crate::text::Text;
 use doom::Dead;
 use grid::{Level, Square};
+use judging::Text;
 use std::alloc::{AllocError, Global};
 use xsb::MAX_FILE;
 

@@ -20,8 +20,8 @@ use crate::remark::Remark;
 use crate::report::Report;
 use crate::sentences::{put_broken, put_excess, put_remark};
 use crate::show::no_level;
-use crate::text::Text;
 use grid::{Level, LevelFault};
+use judging::Text;
 use std::alloc::{AllocError, Global};
 use xsb::{
     BoardEntry, BoardRows, BoardSource, BrokenRow, BrokenRows, Collection, Excess, MAX_FILE,

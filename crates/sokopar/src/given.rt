@@ -1,195 +1,153 @@
-//! The report of proving the solutions of a folder.
-ghost use denote.Param.Send.{IsSync};
-ghost use Rattle.std.specs.Prelude.{◌≡◌, ◌++◌, ◌≤◌, [], length, IfOk, OnOk, codes, decimal};
-ghost use Rattle.sokopar.specs.Entries.{entry_listed, listed_of};
-ghost use Rattle.sokopar.specs.Folder.{BeginsSolutionsReport, IsJudgedFrom, IsProvedFrom, IsSolutionsReport};
-ghost use Rattle.sokopar.specs.Folder.{judged_of, solutions_line, stopped_by};
-ghost use Rattle.sokopar.specs.Proving.{better_words, judgement_words};
-ghost use Rattle.sokopar.specs.Report.{line};
-ghost use Rattle.sokopar.specs.inside.Sending.{SendsByLine};
+//! The judgement of a given solution.
+ghost use Rattle.std.specs.Prelude.{◌≡◌, ◌≢◌, ◌≤◌, ℕ, true, List, Option, Some, None, Ok, length, IfOk, IfErr, OnOk};
+ghost use Rattle.grid.specs.Board.{Board};
+ghost use Rattle.lurd.specs.declared.limits.TheConstants.{MAX_MOVES};
+ghost use Rattle.sokopar.specs.Judging.{IsJudged, IsJudgedOn, IsJudgedText, uncapped};
+ghost use Rattle.sokopar.specs.Levels.{stopped_by};
+ghost use Rattle.sokopar.specs.Runs.{ReadsIfSome, ReadsWhole, Stops};
 
+use crate::compare::compare;
 use crate::fault::RunFault;
-use crate::folder::Folder;
-use crate::judge::Judge;
-use crate::judgement::{Judgement, put_better, put_judgement};
-use crate::levels::send_report;
-use crate::prove::judge_level;
-use crate::proving::{ProveRequest, SolutionsRequest};
-use crate::reported::{Kind, Reported};
-use crate::rows::put_judgement_row;
-use crate::sink::Sink;
+use crate::reads::read_whole;
 use crate::source::Source;
-use crate::text::Text;
-use crate::totals::{Totals, put_solutions};
-use crate::watch::Watch;
-use grid::{Level, LevelFault};
+use grid::{Level, LevelFault, MAX_BOXES, Moves};
+use judging::{Counts, Judgement, Settings};
+use lurd::{LurdFault, Verdict, parse, replay};
+use prover::Progress;
 use std::alloc::{AllocError, Global};
 use std::thread::Threads;
-use xsb::{BoardEntry, Entry, MAX_FILE};
 
-/// Appends the line of a level with what is judged of its solution in words.
-fn put_line(
-    text: &mut Text,
-    number: u32,
-    judgement: &Judgement,
-    limit: u32,
-) -> Result<(), AllocError>
-    ensures { OnOk result (text.new ≡ text.old ++ line (decimal number ++ codes " " ++
-        judgement_words limit judgement.now ++ better_words (codes "  ") [] judgement.now)) }
+/// The judgement of a solution if opening or reading it stopped for a fault.
+pub(crate) fn stopped_by(fault: RunFault) -> Judgement
+    ensures { result ≡ stopped_by fault }
 {
-    text.put_number(number as usize)?;
-    text.put(b" ")?;
-    put_judgement(text, judgement, limit)?;
-    put_better(text, judgement, b"  ", b"")?;
-    text.put(b"\n")
-}
-
-/// The report's part on a level, with the judgement of its solution.
-fn judged_of(
-    alloc: Global,
-    number: u32,
-    entry: &Entry,
-    judgement: &Judgement,
-    request: SolutionsRequest,
-) -> Result<Reported, AllocError>
-    ensures { IfOk result (λ one. one ≡ judged_of request number (entry_listed entry.now) judgement.now) }
-{
-    let mut text = Text::new(alloc);
-    if request.table {
-        put_judgement_row(&mut text, number, entry, judgement, request.limit)?;
-    } else {
-        put_line(&mut text, number, judgement, request.limit)?;
+    match fault {
+        RunFault::OutOfMemory => Judgement::OutOfMemory {
+            given: None,
+            at_least: None,
+        },
+        _ => Judgement::CannotRead,
     }
-    let kind = judgement.kind();
-    Ok(Reported { text, kind })
 }
 
-/// The judgement of the solution in a file.
-fn judge_file<R: Threads + Sync, T: Source + Drop, P: Watch>(
+/// The judgement of moves.
+#[tactic(auto, using(crate::proofs::Judging::of_verdict))]
+fn judge_moves<R: Threads + Sync, P: Progress>(
     rt: &R,
     alloc: Global,
-    number: u32,
+    level: &Level,
+    moves: Moves,
+    workers: u8,
+    settings: Settings,
+    progress: &mut P,
+) -> Result<Judgement, AllocError>
+    requires bound { length moves ≤ MAX_MOVES }
+    requires uncapped { settings.cap ≡ None }
+    ensures { IfOk result (λ judgement. IsJudged settings level.now (Some moves) judgement) }
+{
+    let verdict = replay(alloc, level, &moves)?;
+    match verdict {
+        Verdict::Solved {
+            pushes,
+            moves: count,
+        } => {
+            let given = Counts {
+                pushes,
+                moves: count,
+            };
+            if level.boxes() > MAX_BOXES {
+                return Ok(Judgement::TooManyBoxes(Some(given)));
+            }
+            let judgement = compare(rt, alloc, level, given, moves, workers, settings, progress);
+            Ok(judgement)
+        }
+        Verdict::Unsolved { .. } => Ok(Judgement::Failing(verdict)),
+        Verdict::Blocked { .. } => Ok(Judgement::Failing(verdict)),
+        Verdict::WrongCase { .. } => Ok(Judgement::Failing(verdict)),
+    }
+}
+
+/// The judgement of a text with a fault.
+fn bad_text(fault: LurdFault) -> Result<Judgement, AllocError>
+    ensures text { IfOk result (λ judgement. judgement ≡ Judgement.BadText fault) }
+    ensures memory { OnOk result (fault ≢ LurdFault.OutOfMemory) }
+{
+    match fault {
+        LurdFault::OutOfMemory => Err(AllocError),
+        _ => Ok(Judgement::BadText(fault)),
+    }
+}
+
+/// The judgement of a text on a lawful level.
+#[tactic(auto, using(crate::proofs::Judging::of_text, crate::proofs::Judging::of_fault))]
+fn judge_text<R: Threads + Sync, P: Progress>(
+    rt: &R,
+    alloc: Global,
+    level: &Level,
+    text: &[u8],
+    workers: u8,
+    settings: Settings,
+    progress: &mut P,
+) -> Result<Judgement, AllocError>
+    requires uncapped { settings.cap ≡ None }
+    ensures { IfOk result (λ judgement. IsJudgedText settings level.now text.now judgement) }
+{
+    match parse(alloc, text) {
+        Ok(moves) => judge_moves(rt, alloc, level, moves, workers, settings, progress),
+        Err(fault) => bad_text(fault),
+    }
+}
+
+/// The judgement of the solution of a lawful level. It reads the solution to its end.
+#[tactic(auto, using(crate::proofs::Reading::stops_after))]
+fn judge_lawful<R: Threads + Sync, T: Source, P: Progress>(
+    rt: &R,
+    alloc: Global,
+    level: &Level,
+    workers: u8,
+    settings: Settings,
+    solution: &mut T,
+    progress: &mut P,
+) -> Result<Judgement, RunFault>
+    ensures ok { IfOk result (λ judgement. (text : List ℕ) ×
+        ReadsWhole (T.seen solution.old) (T.seen solution.new) text ×
+        IsJudgedText (uncapped settings) level.now text judgement) }
+    ensures err { IfErr result (Stops (T.seen solution.old) (T.seen solution.new)) }
+{
+    let Settings { limit, moves, .. } = settings;
+    let cap = None;
+    let settings = Settings { cap, limit, moves };
+    let text = read_whole(alloc, solution)?;
+    Ok(judge_text(
+        rt,
+        alloc,
+        level,
+        text.as_slice(),
+        workers,
+        settings,
+        progress,
+    )?)
+}
+
+/// The judgement of a board and its solution. It reads the solution to its end if the board is lawful, and not otherwise.
+#[tactic(auto, using(crate::proofs::Judged::on_board))]
+pub(crate) fn judge_given<R: Threads + Sync, T: Source, P: Progress>(
+    rt: &R,
+    alloc: Global,
     board: &Result<Level, LevelFault>,
-    file: T,
-    request: SolutionsRequest,
-    watch: &mut P,
-) -> Judgement
-    ensures { IsJudgedFrom T.seen request board.now file result }
+    workers: u8,
+    settings: Settings,
+    solution: &mut T,
+    progress: &mut P,
+) -> Result<Judgement, RunFault>
+    ensures ok { IfOk result (λ judgement. (text : Option (List ℕ)) ×
+        ReadsIfSome (T.seen solution.old) (T.seen solution.new) text ×
+        IsJudgedOn true settings board.now text judgement) }
+    ensures err { IfErr result (λ fault. ((lawful : Board) × (board.now ≡ Ok lawful)) ×
+        Stops (T.seen solution.old) (T.seen solution.new) fault) }
 {
-    let search = ProveRequest {
-        number,
-        workers: request.workers,
-        limit: request.limit,
-        moves: request.moves,
-        lurd: false,
-    };
-    let mut file = file;
-    watch.begin(number);
-    let level = match board {
-        Ok(level) => level,
-        Err(fault) => return Judgement::Faulty(*fault),
-    };
-    let judged = judge_level(rt, alloc, level, search, &mut file, watch);
-    match judged {
-        Ok(judgement) => judgement,
-        Err(fault) => Judgement::stopped_by(fault),
+    match board {
+        Ok(level) => judge_lawful(rt, alloc, level, workers, settings, solution, progress),
+        Err(fault) => Ok(Judgement::Faulty(*fault)),
     }
-}
-
-/// The report's part on a level with the solution in a file.
-fn prove_file<R: Threads + Sync, T: Source + Drop, P: Watch>(
-    rt: &R,
-    alloc: Global,
-    number: u32,
-    board: BoardEntry,
-    file: T,
-    request: SolutionsRequest,
-    watch: &mut P,
-) -> Result<Reported, AllocError>
-    ensures { IfOk result (λ one. (judgement : Judgement) ×
-        IsJudgedFrom T.seen request (listed_of board).board file judgement ×
-        (one ≡ judged_of request number (listed_of board) judgement)) }
-{
-    let entry = board.into_entry(alloc)?;
-    let judgement = judge_file(rt, alloc, number, &entry.board, file, request, watch);
-    judged_of(alloc, number, &entry, &judgement, request)
-}
-
-/// The report's part on a level whose solution could not be opened.
-fn unopened(
-    alloc: Global,
-    number: u32,
-    board: BoardEntry,
-    fault: RunFault,
-    request: SolutionsRequest,
-) -> Result<Reported, AllocError>
-    ensures { IfOk result (λ one. one ≡ judged_of request number (listed_of board) (stopped_by fault)) }
-{
-    let entry = board.into_entry(alloc)?;
-    let judgement = Judgement::stopped_by(fault);
-    judged_of(alloc, number, &entry, &judgement, request)
-}
-
-/// Proves the solutions of a folder.
-#[derive(Drop)]
-struct Prover<'f, D> {
-    folder: &'f D,
-    request: SolutionsRequest,
-}
-
-impl<'f, D: Folder> Judge for Prover<'f, D> {
-    ghost is_right = { λ it. IsProvedFrom (D.opened it.folder.now) D.File.seen it.request };
-
-    ghost last_line = { λ it. solutions_line it.request.table };
-
-    fn judge<R: Threads + Sync, P: Watch>(
-        &self,
-        rt: &R,
-        alloc: Global,
-        number: u32,
-        board: BoardEntry,
-        watch: &mut P,
-    ) -> Result<Reported, AllocError> {
-        match self.folder.open(number) {
-            Ok(Some(file)) => prove_file(rt, alloc, number, board, file, self.request, watch),
-            Ok(None) => Ok(Reported {
-                text: Text::new(alloc),
-                kind: Kind::Missing,
-            }),
-            Err(fault) => unopened(alloc, number, board, fault, self.request),
-        }
-    }
-
-    fn last(&self, alloc: Global, totals: Totals) -> Result<Text, AllocError> {
-        let mut line = Text::new(alloc);
-        if !self.request.table {
-            put_solutions(&mut line, totals)?;
-        }
-        Ok(line)
-    }
-}
-
-/// Writes the report on the solutions of a folder: the line of each as soon as it is known. Returns the exit status.
-pub(crate) fn send_solutions<R: Threads + Sync, D: Folder, P: Watch, K: Sink>(
-    rt: &R,
-    alloc: Global,
-    bytes: &[u8],
-    folder: &D,
-    request: SolutionsRequest,
-    watch: &mut P,
-    sink: &mut K,
-) -> Result<u8, RunFault>
-    requires { length bytes.now ≤ MAX_FILE }
-    ensures { SendsByLine (IsSolutionsReport (D.opened folder.now) D.File.seen request bytes.now)
-        (BeginsSolutionsReport (D.opened folder.now) D.File.seen request bytes.now)
-        (K.seen sink.old) (K.seen sink.new) result }
-{
-    let SolutionsRequest {
-        from,
-        to,
-        table,
-        ..
-    } = request;
-    let prover = Prover { folder, request };
-    send_report(rt, &prover, alloc, bytes, table, from, to, watch, sink)
 }

@@ -1,22 +1,22 @@
 //! Reports on the levels of a collection, which are written line by line.
-ghost use Rattle.std.specs.Prelude.{◌≡◌, ◌≤◌, length, IfOk, IfErr, MatchBool};
+ghost use Rattle.std.specs.Prelude.{◌≡◌, ◌≤◌, ◌++◌, ◌∷◌, [], length, IfOk, IfErr, OnOk, MatchBool};
+ghost use Rattle.judging.specs.inside.Entries.{entry_listed};
 ghost use Rattle.sokopar.specs.Entries.{listed_of};
-ghost use Rattle.sokopar.specs.Levels.{BeginsReportOnLevels, IsBetween, IsReportOnLevels};
-ghost use Rattle.sokopar.specs.Table.{head_of};
-ghost use Rattle.sokopar.specs.inside.Sending.{SendsByLine, SendsLast, SendsLevel, SendsLevels, SendsLine, StopsByLine};
-ghost use Rattle.sokopar.specs.inside.Totals.{AreFewLevels};
+ghost use Rattle.sokopar.specs.Levels.{BeginsReport, IsBetween, IsLine, IsReport, last_line};
+ghost use Rattle.sokopar.specs.inside.Sending.{SendsByLine, SendsJudged, SendsLast, SendsLevel, SendsLevels, SendsLine};
+ghost use Rattle.sokopar.specs.inside.Sending.{StopsByLine};
 
 use crate::fault::RunFault;
 use crate::judge::Judge;
+use crate::proving::LevelsRequest;
 use crate::show::no_level;
 use crate::sink::Sink;
-use crate::table::head_of;
-use crate::totals::Totals;
 use crate::watch::Watch;
 use crate::writes::write_whole;
-use std::alloc::Global;
+use judging::{Judgement, Kind, Text, head_of, put_level_line, put_totals, worst_status};
+use std::alloc::{AllocError, Global};
 use std::thread::Threads;
-use xsb::{BoardEntry, Collection, MAX_FILE};
+use xsb::{BoardEntry, Collection, Entry, MAX_FILE};
 
 /// Whether a number is in a range, both ends included.
 fn is_between(from: u32, to: u32, number: u32) -> bool
@@ -35,64 +35,110 @@ fn send_line<K: Sink>(line: &[u8], sink: &mut K) -> Result<(), RunFault>
     }
 }
 
-/// Judges a level, and writes its line. Returns the totals with this level.
+/// Writes the line of a level.
+#[tactic(auto, using(crate::proofs::ByLine::line_sent))]
+fn send_judged<K: Sink>(
+    alloc: Global,
+    request: LevelsRequest,
+    number: u32,
+    entry: &Entry,
+    judgement: &Judgement,
+    sink: &mut K,
+) -> Result<(), RunFault>
+    ensures { SendsJudged request number (entry_listed entry.now) judgement.now (K.seen sink.old) (K.seen sink.new)
+        result }
+{
+    let LevelsRequest {
+        table,
+        settings,
+        ..
+    } = request;
+    let mut text = Text::new(alloc);
+    put_level_line(&mut text, table, settings, number, entry, judgement)?;
+    send_line(text.as_slice(), sink)
+}
+
+/// Keeps how a level counts.
+fn keep(kinds: &mut Vec<Kind>, kind: Kind) -> Result<(), AllocError>
+    ensures { OnOk result (kinds.new.items ≡ kinds.old.items ++ kind ∷ []) }
+{
+    kinds.push(kind)?;
+    Ok(())
+}
+
+/// Judges a level, and writes its line. Keeps how the level counts.
 fn send_level<R: Threads + Sync, J: Judge, P: Watch, K: Sink>(
     rt: &R,
     judge: &J,
     alloc: Global,
+    request: LevelsRequest,
     number: u32,
     board: BoardEntry,
-    totals: Totals,
+    kinds: &mut Vec<Kind>,
     watch: &mut P,
     sink: &mut K,
-) -> Result<Totals, RunFault>
-    requires number { 1 ≤ number }
-    requires few { AreFewLevels totals }
-    ensures { SendsLevel (J.is_right judge.now) number (listed_of board) totals (K.seen sink.old) (K.seen sink.new)
-        result }
+) -> Result<(), RunFault>
+    requires { 1 ≤ number }
+    ensures { SendsLevel (IsLine (J.is_right judge.now) request) number (listed_of board) kinds.old.items kinds.new.items
+        (K.seen sink.old) (K.seen sink.new) result }
 {
-    let one = judge.judge(rt, alloc, number, board, watch)?;
-    send_line(one.text.as_slice(), sink)?;
-    Ok(totals.with(one.kind))
+    let entry = board.into_entry(alloc)?;
+    let judgement = judge.judge(rt, alloc, number, &entry.board, watch);
+    keep(kinds, judgement.kind())?;
+    send_judged(alloc, request, number, &entry, &judgement, sink)
 }
 
 /// Writes the first line of a table or none, and then judges the levels of a range one after the other, and writes the
-/// line of each before it goes on. Returns the number of levels of the collection, and the totals of those in the
-/// range.
+/// line of each before it goes on. Keeps how they count, and returns the number of levels of the collection.
 fn send_levels<R: Threads + Sync, J: Judge, P: Watch, K: Sink>(
     rt: &R,
     judge: &J,
     alloc: Global,
     bytes: &[u8],
-    table: bool,
-    from: u32,
-    to: u32,
+    request: LevelsRequest,
+    kinds: &mut Vec<Kind>,
     watch: &mut P,
     sink: &mut K,
-) -> Result<(u32, Totals), RunFault>
-    requires { length bytes.now ≤ MAX_FILE }
-    ensures ok { IfOk result (λ sent. SendsLevels (J.is_right judge.now) (head_of table) from to bytes.now
-        sent.0 sent.1 (K.seen sink.old) (K.seen sink.new)) }
+) -> Result<u32, RunFault>
+    requires bound { length bytes.now ≤ MAX_FILE }
+    requires none { kinds.old.items ≡ [] }
+    ensures ok { IfOk result (λ count. SendsLevels (IsLine (J.is_right judge.now) request) request bytes.now
+        count kinds.new.items (K.seen sink.old) (K.seen sink.new)) }
     ensures err { IfErr result (StopsByLine
-        (BeginsReportOnLevels (J.is_right judge.now) (head_of table) from to bytes.now) (K.seen sink.old)
-        (K.seen sink.new)) }
+        (BeginsReport (IsLine (J.is_right judge.now) request) request bytes.now) (K.seen sink.old) (K.seen sink.new)) }
 {
     let Ok(mut collection) = Collection::of(bytes) else {
         unreachable!();
     };
-    send_line(head_of(table), sink)?;
-    let mut totals = Totals::new();
+    send_line(head_of(request.table), sink)?;
     let mut number: u32 = 0;
     'boards: loop {
         let Some(board) = collection.next_board(alloc)? else {
             break;
         };
         number += 1;
-        if is_between(from, to, number) {
-            totals = send_level(rt, judge, alloc, number, board, totals, watch, sink)?;
+        if is_between(request.from, request.to, number) {
+            send_level(rt, judge, alloc, request, number, board, kinds, watch, sink)?;
         }
     }
-    Ok((number, totals))
+    Ok(number)
+}
+
+/// The last line of a report on levels of these kinds.
+fn last_line(
+    alloc: Global,
+    given: bool,
+    request: LevelsRequest,
+    kinds: &[Kind],
+) -> Result<Text, AllocError>
+    ensures { IfOk result (λ text. text ≡ last_line given request kinds.now) }
+{
+    let mut text = Text::new(alloc);
+    if !request.table {
+        let cap = request.settings.cap;
+        put_totals(&mut text, given, cap, kinds)?;
+    }
+    Ok(text)
 }
 
 /// Writes the last line: that the collection, with this number of levels, has none with the first number of the range;
@@ -116,26 +162,27 @@ fn send_last<K: Sink>(
     Ok(worst)
 }
 
-/// Writes the report on the levels of a range, as a table or not: the line of each as soon as it is known. Returns the
-/// exit status.
+/// Writes the report on the levels of a range: the line of each as soon as it is known. `given` says whether solutions are
+/// given. Returns the exit status.
 pub(crate) fn send_report<R: Threads + Sync, J: Judge, P: Watch, K: Sink>(
     rt: &R,
     judge: &J,
+    given: bool,
     alloc: Global,
     bytes: &[u8],
-    table: bool,
-    from: u32,
-    to: u32,
+    request: LevelsRequest,
     watch: &mut P,
     sink: &mut K,
 ) -> Result<u8, RunFault>
     requires { length bytes.now ≤ MAX_FILE }
     ensures { SendsByLine
-        (IsReportOnLevels (J.is_right judge.now) (head_of table) (J.last_line judge.now) from to bytes.now)
-        (BeginsReportOnLevels (J.is_right judge.now) (head_of table) from to bytes.now)
+        (IsReport (IsLine (J.is_right judge.now) request) given request bytes.now)
+        (BeginsReport (IsLine (J.is_right judge.now) request) request bytes.now)
         (K.seen sink.old) (K.seen sink.new) result }
 {
-    let (levels, totals) = send_levels(rt, judge, alloc, bytes, table, from, to, watch, sink)?;
-    let last = judge.last(alloc, totals)?;
-    send_last(alloc, from, levels, last.as_slice(), totals.status(), sink)
+    let mut kinds = Vec::new(alloc);
+    let levels = send_levels(rt, judge, alloc, bytes, request, &mut kinds, watch, sink)?;
+    let last = last_line(alloc, given, request, kinds.as_slice())?;
+    let worst = worst_status(kinds.as_slice());
+    send_last(alloc, request.from, levels, last.as_slice(), worst, sink)
 }

@@ -18,9 +18,8 @@
 //! ```
 #![tactic(auto)]
 
-mod best;
 mod check;
-mod collection;
+mod compare;
 mod dead;
 mod doomed;
 mod engines;
@@ -29,33 +28,26 @@ mod explain;
 mod explaining;
 mod fault;
 mod faulty;
-mod finding;
 mod folder;
 mod given;
 mod judge;
-mod judgement;
+mod judges;
 mod laws;
 mod levels;
 mod listing;
-mod moves;
-mod outcome;
+mod one_level;
 mod picture;
-mod prove;
 mod proving;
 mod reads;
 mod remark;
 mod replay;
 mod report;
-mod reported;
-mod rows;
+mod search;
 mod sentences;
 mod show;
 mod sink;
 mod solve;
 mod source;
-mod table;
-mod text;
-mod totals;
 mod trail;
 mod watch;
 mod writes;
@@ -66,11 +58,11 @@ pub use engines::{
 pub use explaining::run_explain;
 pub use fault::RunFault;
 pub use folder::Folder;
+pub use judging::Settings;
 pub use laws::{one_report, printed_solution_replays, solution_replays};
 pub use prover::Progress;
 pub use proving::{
-    BestRequest, CollectionRequest, ProveRequest, SearchConfig, SolutionsRequest, run_best,
-    run_best_collection, run_prove, run_prove_collection,
+    LevelRequest, LevelsRequest, run_best, run_best_collection, run_prove, run_prove_collection,
 };
 pub use sink::{Sink, Writer};
 pub use source::{Reader, Source};

@@ -6,9 +6,9 @@ ghost use Rattle.xsb.specs.Collection.{IsJudged};
 ghost use Rattle.xsb.specs.Rows.{cell_byte};
 
 use crate::dead::{mark_of, put_map};
-use crate::text::Text;
 use doom::Dead;
 use grid::{Cell, Level, LevelFault, Square};
+use judging::Text;
 use std::alloc::{AllocError, Global};
 use xsb::{BoardRows, cell_byte};
 

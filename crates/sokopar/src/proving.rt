@@ -1,81 +1,45 @@
 //! The engines that look for a solution with the fewest pushes. Their reports are proved to be right, but not to be the
 //! only right ones: several solutions may have the fewest pushes, and a search may end at its limit with another bound.
 //! So [`one_report`](crate::one_report) does not cover them.
-ghost use Rattle.std.specs.Prelude.{◌≤◌};
-ghost use Rattle.sokopar.specs.Best.{IsBestReport};
-ghost use Rattle.sokopar.specs.Collection.{BeginsCollectionReport, IsCollectionReport};
-ghost use Rattle.sokopar.specs.Folder.{BeginsSolutionsReport, IsSolutionsReport};
-ghost use Rattle.sokopar.specs.Proving.{IsProveReport};
+ghost use Rattle.std.specs.Prelude.{◌≤◌, None, true, false};
+ghost use Rattle.sokopar.specs.Levels.{BeginsReport, IsBestLine, IsProveLine, IsReport};
+ghost use Rattle.sokopar.specs.OneLevel.{IsLevelReport};
 ghost use Rattle.sokopar.specs.Report.{Written, WrittenOfTwo};
 ghost use Rattle.sokopar.specs.Runs.{Runs, RunsByLine, RunsInTwo};
 
-use crate::best::best_in;
-use crate::collection::send_collection;
 use crate::fault::RunFault;
 use crate::folder::Folder;
-use crate::given::send_solutions;
-use crate::prove::prove_in;
+use crate::judges::{Prover, Searcher};
+use crate::levels::send_report;
+use crate::one_level::{best_in, prove_in};
 use crate::reads::read_whole;
 use crate::sink::Sink;
 use crate::source::Source;
 use crate::watch::Watch;
+use judging::Settings;
 use std::alloc::Global;
 use std::thread::Threads;
 
-/// The settings of a search of [`run_best`]. The search ends undecided once it has found more positions than the limit.
-/// With a cap it looks only for solutions with at most that many pushes. The number of workers, from 1 to
-/// [`MAX_WORKERS`](layers::MAX_WORKERS), changes only its time and memory.
-///
-/// With `moves` a second search, on one thread, looks for the fewest moves among the solutions with the fewest pushes.
-/// Its limit is the same number, of positions with the exact square of the player.
+/// The level for [`run_best`] or [`run_prove`], counted from 1, the settings of the search, and whether only the solution
+/// is written, without the first line of the report. The number of workers, from 1 to
+/// [`MAX_WORKERS`](layers::MAX_WORKERS), changes only time and memory. `run_prove` has no cap.
 #[derive(Clone, Copy, PartialEq, Eq, Debug)]
-pub struct SearchConfig {
-    pub workers: u8,
-    pub limit: u32,
-    pub cap: Option<u32>,
-    pub moves: bool,
-}
-
-/// The level for [`run_best`], counted from 1, the bounds of the search, and whether it writes only the solution,
-/// without the first line of its report.
-#[derive(Clone, Copy, PartialEq, Eq, Debug)]
-pub struct BestRequest {
+pub struct LevelRequest {
     pub number: u32,
-    pub config: SearchConfig,
+    pub workers: u8,
+    pub settings: Settings,
     pub lurd: bool,
 }
 
-/// The first and the last level for [`run_best_collection`], counted from 1, whether it writes a table, and the bounds
-/// of the search of each level. Levels that the collection lacks are left out.
+/// The first and the last level for [`run_best_collection`] or [`run_prove_collection`], counted from 1, whether a table
+/// is written, and the settings of each search. Levels that the collection lacks are left out.
 #[derive(Clone, Copy, PartialEq, Eq, Debug)]
-pub struct CollectionRequest {
-    pub from: u32,
-    pub to: u32,
-    pub table: bool,
-    pub config: SearchConfig,
-}
-
-/// The level for [`run_prove`], counted from 1, the limit of positions, the number of workers, whether it also looks
-/// for the fewest moves, and whether it writes only a solution, as for [`run_best`].
-#[derive(Clone, Copy, PartialEq, Eq, Debug)]
-pub struct ProveRequest {
-    pub number: u32,
-    pub workers: u8,
-    pub limit: u32,
-    pub moves: bool,
-    pub lurd: bool,
-}
-
-/// The first and the last level for [`run_prove_collection`], counted from 1, whether it writes a table, and the
-/// settings of each search, as for [`run_prove`].
-#[derive(Clone, Copy, PartialEq, Eq, Debug)]
-pub struct SolutionsRequest {
+pub struct LevelsRequest {
     pub from: u32,
     pub to: u32,
     pub table: bool,
     pub workers: u8,
-    pub limit: u32,
-    pub moves: bool,
+    pub settings: Settings,
 }
 
 /// Finds a solution with the fewest pushes of a level of a collection. Writes its numbers of pushes and moves, and the
@@ -90,25 +54,19 @@ pub fn run_best<R: Threads + Sync, S: Source, P: Watch, K: Sink>(
     rt: &R,
     alloc: Global,
     source: &mut S,
-    request: BestRequest,
+    request: LevelRequest,
     watch: &mut P,
     sink: &mut K,
 ) -> Result<u8, RunFault>
     requires { 1 ≤ request.number }
     ensures { Runs
-        (Written request.lurd
-        (IsBestReport request.config.moves request.config.cap request.config.limit request.number))
+        (Written request.lurd (λ bytes. IsLevelReport false request.settings request.number bytes None))
         (S.seen source.old) (S.seen source.new) (K.seen sink.old) (K.seen sink.new) result }
 {
-    let BestRequest {
-        number,
-        config,
-        lurd,
-    } = request;
     let bytes = read_whole(alloc, source)?;
-    watch.begin(number);
-    let report = best_in(rt, alloc, bytes.as_slice(), number, config, watch)?;
-    report.send_as(lurd, sink)
+    watch.begin(request.number);
+    let report = best_in(rt, alloc, bytes.as_slice(), request, watch)?;
+    report.send_as(request.lurd, sink)
 }
 
 /// Finds a solution with the fewest pushes of each level of a part of a collection, one level after the other. Writes a
@@ -128,15 +86,25 @@ pub fn run_best_collection<R: Threads + Sync, S: Source, P: Watch, K: Sink>(
     rt: &R,
     alloc: Global,
     source: &mut S,
-    request: CollectionRequest,
+    request: LevelsRequest,
     watch: &mut P,
     sink: &mut K,
 ) -> Result<u8, RunFault>
-    ensures { RunsByLine (IsCollectionReport request) (BeginsCollectionReport request)
+    ensures { RunsByLine (IsReport (IsBestLine request) false request) (BeginsReport (IsBestLine request) request)
         (S.seen source.old) (S.seen source.new) (K.seen sink.old) (K.seen sink.new) result }
 {
     let bytes = read_whole(alloc, source)?;
-    send_collection(rt, alloc, bytes.as_slice(), request, watch, sink)
+    let judge = Searcher { request };
+    send_report(
+        rt,
+        &judge,
+        false,
+        alloc,
+        bytes.as_slice(),
+        request,
+        watch,
+        sink,
+    )
 }
 
 /// Proves that a solution in LURD text has the fewest pushes of all solutions of a level of a collection. Otherwise it
@@ -156,13 +124,13 @@ pub fn run_prove<R: Threads + Sync, S: Source, T: Source, P: Watch, K: Sink>(
     alloc: Global,
     source: &mut S,
     solution: &mut T,
-    request: ProveRequest,
+    request: LevelRequest,
     watch: &mut P,
     sink: &mut K,
 ) -> Result<u8, RunFault>
     requires { 1 ≤ request.number }
     ensures { RunsInTwo
-        (WrittenOfTwo request.lurd (IsProveReport request.moves request.limit request.number)) request.number
+        (WrittenOfTwo request.lurd (IsLevelReport true request.settings request.number)) request.number
         (S.seen source.old) (S.seen source.new) (T.seen solution.old)
         (T.seen solution.new) (K.seen sink.old) (K.seen sink.new) result }
 {
@@ -188,14 +156,24 @@ pub fn run_prove_collection<R: Threads + Sync, S: Source, D: Folder, P: Watch, K
     alloc: Global,
     source: &mut S,
     folder: &D,
-    request: SolutionsRequest,
+    request: LevelsRequest,
     watch: &mut P,
     sink: &mut K,
 ) -> Result<u8, RunFault>
-    ensures { RunsByLine (IsSolutionsReport (D.opened folder.now) D.File.seen request)
-        (BeginsSolutionsReport (D.opened folder.now) D.File.seen request)
+    ensures { RunsByLine (IsReport (IsProveLine (D.opened folder.now) D.File.seen request) true request)
+        (BeginsReport (IsProveLine (D.opened folder.now) D.File.seen request) request)
         (S.seen source.old) (S.seen source.new) (K.seen sink.old) (K.seen sink.new) result }
 {
     let bytes = read_whole(alloc, source)?;
-    send_solutions(rt, alloc, bytes.as_slice(), folder, request, watch, sink)
+    let judge = Prover { folder, request };
+    send_report(
+        rt,
+        &judge,
+        true,
+        alloc,
+        bytes.as_slice(),
+        request,
+        watch,
+        sink,
+    )
 }

@@ -1,5 +1,5 @@
 ghost use Rattle.std.specs.Prelude.{◌≡◌, ◌≢◌, ◌++◌, ◌⊎◌, ◌≤◌, ℕ, List, length, Option, OnOk, IfOk, IfErr};
-ghost use Rattle.sokopar.specs.Report.{counts_words, text_fault_report, text_fault_words, verdict_report};
+ghost use Rattle.sokopar.specs.Report.{text_fault_report, text_fault_words, verdict_report};
 ghost use Rattle.sokopar.specs.Report.{verdict_status, verdict_words, IsReplayOf, IsReplayReport};
 ghost use Rattle.sokopar.specs.Runs.{ReadsIfSome, ReadsWhole, Stops};
 ghost use Rattle.grid.specs.Board.{Board};
@@ -10,44 +10,17 @@ use crate::reads::read_whole;
 use crate::report::Report;
 use crate::show::lawful_level;
 use crate::source::Source;
-use crate::text::Text;
 use grid::Level;
+use judging::{Text, TextFaultWords, VerdictWords};
 use lurd::{LurdFault, Verdict, parse, replay};
 use std::alloc::{AllocError, Global};
 use xsb::MAX_FILE;
 
-/// Appends numbers of pushes and of moves.
-pub(crate) fn put_counts(text: &mut Text, pushes: usize, moves: usize) -> Result<(), AllocError>
-    ensures { OnOk result (text.new ≡ text.old ++ counts_words pushes moves) }
-{
-    text.put_number(pushes)?;
-    text.put(b" pushes, ")?;
-    text.put_number(moves)?;
-    text.put(b" moves")
-}
-
 /// Appends a verdict in words.
-pub(crate) fn put_verdict(text: &mut Text, verdict: Verdict) -> Result<(), AllocError>
+fn put_verdict(text: &mut Text, verdict: Verdict) -> Result<(), AllocError>
     ensures { OnOk result (text.new ≡ text.old ++ verdict_words verdict) }
 {
-    match verdict {
-        Verdict::Solved { pushes, moves } => {
-            text.put(b"solved ")?;
-            put_counts(text, pushes, moves)
-        }
-        Verdict::Unsolved { pushes, moves } => {
-            text.put(b"unsolved ")?;
-            put_counts(text, pushes, moves)
-        }
-        Verdict::Blocked { at } => {
-            text.put(b"blocked at ")?;
-            text.put_number(at)
-        }
-        Verdict::WrongCase { at } => {
-            text.put(b"wrong case at ")?;
-            text.put_number(at)
-        }
-    }
+    text.show(&VerdictWords(verdict))
 }
 
 /// The exit status of a verdict.
@@ -70,30 +43,21 @@ fn verdict_report(alloc: Global, verdict: Verdict) -> Result<Report, AllocError>
     Ok(Report::new(text, status_of(verdict)))
 }
 
-/// Appends a fault in the text of a solution in words. Fails if the fault is out of memory.
-pub(crate) fn put_text_fault(text: &mut Text, fault: LurdFault) -> Result<(), AllocError>
-    ensures words { OnOk result (text.new ≡ text.old ++ text_fault_words fault) }
-    ensures memory { OnOk result (fault ≢ LurdFault.OutOfMemory) }
+/// Appends a fault in the text of a solution in words.
+fn put_text_fault(text: &mut Text, fault: LurdFault) -> Result<(), AllocError>
+    ensures { OnOk result (text.new ≡ text.old ++ text_fault_words fault) }
 {
-    match fault {
-        LurdFault::BadByte { at } => {
-            text.put(b"bad byte at ")?;
-            text.put_number(at)
-        }
-        LurdFault::BadCount { at } => {
-            text.put(b"bad count at ")?;
-            text.put_number(at)
-        }
-        LurdFault::TooManyMoves => text.put(b"too many moves"),
-        LurdFault::OutOfMemory => Err(AllocError),
-    }
+    text.show(&TextFaultWords(fault))
 }
 
-/// The report of a fault in the text of a solution.
+/// The report of a fault in the text of a solution. Fails if the fault is out of memory.
 fn text_fault_report(alloc: Global, fault: LurdFault) -> Result<Report, AllocError>
     ensures report { IfOk result (λ report. report ≡ text_fault_report fault) }
     ensures memory { OnOk result (fault ≢ LurdFault.OutOfMemory) }
 {
+    if matches!(fault, LurdFault::OutOfMemory) {
+        return Err(AllocError);
+    }
     let mut text = Text::new(alloc);
     put_text_fault(&mut text, fault)?;
     text.put(b"\n")?;

@@ -5,8 +5,8 @@ ghost use Rattle.sokopar.specs.inside.Sending.{Sends, as_written};
 
 use crate::fault::RunFault;
 use crate::sink::Sink;
-use crate::text::Text;
 use crate::writes::write_whole;
+use judging::Text;
 use std::marker::Model;
 
 /// A whole report: its text and its status.

@@ -4,8 +4,8 @@ ghost use Rattle.sokopar.specs.Explaining.{broken_line, byte_words, cause_words,
 ghost use Rattle.sokopar.specs.Explaining.{place_words, remark_words, sentence, sentence_at, sentences};
 
 use crate::remark::Remark;
-use crate::text::Text;
 use grid::{MAX_COLS, MAX_ROWS, Square};
+use judging::Text;
 use std::alloc::AllocError;
 use xsb::{BoardRows, BrokenRow, Cause, Excess, RowPlace};
 

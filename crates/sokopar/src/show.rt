@@ -5,8 +5,8 @@ ghost use Rattle.sokopar.specs.inside.Parts.{HasChosen};
 use crate::check::put_fault;
 use crate::listing::level_of;
 use crate::report::Report;
-use crate::text::Text;
 use grid::{Level, LevelFault};
+use judging::Text;
 use std::alloc::{AllocError, Global};
 use xsb::MAX_FILE;
 

@@ -1,28 +1,25 @@
-ghost use Rattle.std.specs.Prelude.{◌≡◌, ◌++◌, ◌≤◌, None, OnOk, IfOk, length};
+ghost use Rattle.std.specs.Prelude.{◌≡◌, ◌++◌, ◌≤◌, OnOk, IfOk, length};
 ghost use Rattle.sokopar.specs.OneReport.{IsOnlySolveReport};
-ghost use Rattle.sokopar.specs.Report.{line, too_many_boxes};
-ghost use Rattle.sokopar.specs.Solving.{positions_words, answer_report, IsSolveOf};
-ghost use Rattle.sokopar.specs.Retelling.{solved_text};
-ghost use Rattle.sokopar.specs.inside.Parts.{limit_words};
-ghost use Rattle.lurd.specs.Text.{bytes_of};
+ghost use Rattle.sokopar.specs.Report.{too_many_boxes};
+ghost use Rattle.sokopar.specs.Solving.{answer_report, IsSolveOf};
+ghost use Rattle.sokopar.specs.inside.Parts.{answer_words};
 ghost use Rattle.crew.specs.Configured.{IsWithinLimits};
 
-use crate::best::put_none_within;
 use crate::laws::one_report;
-use crate::replay::put_counts;
 use crate::report::Report;
 use crate::show::lawful_level;
-use crate::text::Text;
 use crew::{Config, Gate};
-use grid::{Level, Moves};
+use grid::Level;
+use judging::{NoneWithin, Number, Text};
 use solo::{Answer, SolveFault};
 use std::alloc::{AllocError, Global};
+use std::fmt;
 use std::sync::{Arc, Wait};
 use std::thread::Threads;
 use xsb::MAX_FILE;
 
 /// The report that the level has more than [`MAX_BOXES`](grid::MAX_BOXES) boxes.
-pub(crate) fn too_many_boxes(alloc: Global) -> Result<Report, AllocError>
+fn too_many_boxes(alloc: Global) -> Result<Report, AllocError>
     ensures { IfOk result (λ report. report ≡ too_many_boxes) }
 {
     let mut text = Text::new(alloc);
@@ -30,70 +27,62 @@ pub(crate) fn too_many_boxes(alloc: Global) -> Result<Report, AllocError>
     Ok(Report::new(text, 1))
 }
 
-/// Appends a number of positions.
-fn put_positions(text: &mut Text, positions: u64) -> Result<(), AllocError>
-    ensures { OnOk result (text.new ≡ text.old ++ positions_words positions) }
-{
-    text.put(b", ")?;
-    text.put_number(positions as usize)?;
-    text.put(b" positions")
+/// An answer in words, under a cap of pushes and a limit of positions.
+#[derive(Drop)]
+struct AnswerWords<'a> {
+    answer: &'a Answer,
+    cap: Option<u32>,
+    limit: u32,
 }
 
-/// The report of a solution.
-fn solved(alloc: Global, moves: &Moves, pushes: u64, positions: u64) -> Result<Report, AllocError>
-    ensures { IfOk result
-        (λ report. report ≡ record
-        { text = solved_text pushes (length moves.now) positions (bytes_of moves.now); status = 0 }) }
-{
-    let mut text = Text::new(alloc);
-    text.put(b"solved ")?;
-    put_counts(&mut text, pushes as usize, moves.len())?;
-    put_positions(&mut text, positions)?;
-    text.put(b"\n")?;
-    text.put_letters(moves)?;
-    text.put(b"\n")?;
-    Ok(Report::new(text, 0))
+impl fmt::Display for AnswerWords<'_> {
+    ghost use Rattle.std.specs.Prelude.{Some};
+    ghost use Rattle.sokopar.specs.inside.Parts.{answer_words};
+
+    ghost output = { λ it. Some (answer_words it.cap it.limit it.answer.now) };
+
+    fn fmt<W: fmt::Write>(&self, f: &mut fmt::Formatter<W>) -> fmt::Result {
+        match self.answer {
+            Answer::Solved {
+                moves,
+                pushes,
+                positions,
+            } => {
+                let pushes = Number(*pushes as usize);
+                let moves = Number(moves.len());
+                let positions = Number(*positions as usize);
+                write!(
+                    f,
+                    "solved {pushes} pushes, {moves} moves, {positions} positions"
+                )
+            }
+            Answer::Unsolvable { positions } => {
+                let positions = Number(*positions as usize);
+                write!(f, "unsolvable, {positions} positions")
+            }
+            Answer::NoneWithin { positions } => {
+                let none = NoneWithin(self.cap);
+                let positions = Number(*positions as usize);
+                write!(f, "{none}, {positions} positions")
+            }
+            Answer::Limit => {
+                let limit = Number(self.limit as usize);
+                write!(f, "limit {limit} reached")
+            }
+        }
+    }
 }
 
-/// The report of a level without a solution.
-fn unsolvable(alloc: Global, positions: u64) -> Result<Report, AllocError>
-    ensures { IfOk result (λ report. report ≡ answer_report None 0 (Answer.Unsolvable positions)) }
+/// Appends an answer in words, under a cap of pushes and a limit of positions.
+fn put_answer(
+    text: &mut Text,
+    answer: &Answer,
+    cap: Option<u32>,
+    limit: u32,
+) -> Result<(), AllocError>
+    ensures { OnOk result (text.new ≡ text.old ++ answer_words cap limit answer.now) }
 {
-    let mut text = Text::new(alloc);
-    text.put(b"unsolvable")?;
-    put_positions(&mut text, positions)?;
-    text.put(b"\n")?;
-    Ok(Report::new(text, 1))
-}
-
-/// Appends that the limit was reached.
-pub(crate) fn put_limit(text: &mut Text, limit: u32) -> Result<(), AllocError>
-    ensures { OnOk result (text.new ≡ text.old ++ limit_words limit) }
-{
-    text.put(b"limit ")?;
-    text.put_number(limit as usize)?;
-    text.put(b" reached")
-}
-
-/// The report that the limit was reached.
-fn limit_reached(alloc: Global, limit: u32) -> Result<Report, AllocError>
-    ensures { IfOk result (λ report. report ≡ answer_report None limit Answer.Limit) }
-{
-    let mut text = Text::new(alloc);
-    put_limit(&mut text, limit)?;
-    text.put(b"\n")?;
-    Ok(Report::new(text, 4))
-}
-
-/// The report that no play solves a level within a cap.
-fn none_within(alloc: Global, cap: Option<u32>, positions: u64) -> Result<Report, AllocError>
-    ensures { IfOk result (λ report. report ≡ answer_report cap 0 (Answer.NoneWithin positions)) }
-{
-    let mut text = Text::new(alloc);
-    put_none_within(&mut text, cap)?;
-    put_positions(&mut text, positions)?;
-    text.put(b"\n")?;
-    Ok(Report::new(text, 1))
+    text.show(&AnswerWords { answer, cap, limit })
 }
 
 /// The report of an answer under a cap of pushes and a limit of positions.
@@ -105,16 +94,19 @@ fn answer_report(
 ) -> Result<Report, AllocError>
     ensures { IfOk result (λ report. report ≡ answer_report cap limit answer.now) }
 {
-    match answer {
-        Answer::Solved {
-            moves,
-            pushes,
-            positions,
-        } => solved(alloc, moves, *pushes, *positions),
-        Answer::Unsolvable { positions } => unsolvable(alloc, *positions),
-        Answer::NoneWithin { positions } => none_within(alloc, cap, *positions),
-        Answer::Limit => limit_reached(alloc, limit),
-    }
+    let mut text = Text::new(alloc);
+    put_answer(&mut text, answer, cap, limit)?;
+    text.put(b"\n")?;
+    let status = match answer {
+        Answer::Solved { moves, .. } => {
+            text.put_letters(moves)?;
+            text.put(b"\n")?;
+            0
+        }
+        Answer::Unsolvable { .. } | Answer::NoneWithin { .. } => 1,
+        Answer::Limit => 4,
+    };
+    Ok(Report::new(text, status))
 }
 
 /// The report of solving a level by a configuration, with a gate for its workers.

@@ -1,15 +1,16 @@
 -- What writing a report does.
 use Rattle.std.specs.Prelude.{◌≡◌, ℕ, Bool, true, false, List, [], ◌∷◌, ◌++◌, length, Result, Ok, Err}
 use Rattle.sokopar.specs.Ends.{Seen}
-use Rattle.sokopar.specs.Levels.{AreReported, BeginsListing, EndsWith, lines_of}
+use Rattle.judging.specs.Table.{head_of, level_line}
+use Rattle.judging.specs.declared.judgement.Judgement.{Judgement}
+use Rattle.judging.specs.declared.kind.Kind.{Kind}
+use Rattle.sokopar.specs.Levels.{AreReported, BeginsListing, EndsWith, Reported, kinds_of, lines_of}
 use Rattle.sokopar.specs.Listing.{Listed, IsLevelListing}
 use Rattle.sokopar.specs.Report.{Report, without_first_line}
 use Rattle.sokopar.specs.Runs.{BeginsOrEnds, WritesLines, WritesLinesPart, WritesPart, WritesWhole}
 use Rattle.sokopar.specs.declared.fault.RunFault.{RunFault}
 use Rattle.sokopar.specs.declared.fault.RunFault.TheVariants.{Write, OutOfMemory}
-use Rattle.sokopar.specs.declared.reported.Reported.{Reported}
-use Rattle.sokopar.specs.declared.totals.Totals.{Totals}
-use Rattle.sokopar.specs.inside.Totals.{AreFewLevels, counted, totals_of}
+use Rattle.sokopar.specs.declared.proving.LevelsRequest.{LevelsRequest}
 
 -- a report as it is written: with the flag without its first line
 abbrev pub as_written : Bool → Report → Report
@@ -50,30 +51,38 @@ SendsLine line old new (Ok value) = WritesWhole old new line
 SendsLine line old new (Err Write) = WritesPart old new line
 SendsLine line old new (Err fault) = ⊥
 
--- what reporting on level n does: the sink takes a right line, and the totals grow by its kind; or a write fails; or
--- memory is refused, and nothing is written
-abbrev pub SendsLevel : (ℕ → Listed → Reported → Type 0) → ℕ → Listed → Totals → Seen → Seen → Result Totals RunFault →
-    Type 0
-SendsLevel IsRight n listed totals old new (Ok more) =
-    (one : Reported) × IsRight n listed one × WritesWhole old new one.text × (more ≡ counted totals one.kind)
-SendsLevel IsRight n listed totals old new (Err Write) =
+-- what writing the line of a level with a judgement does
+abbrev pub SendsJudged : {A : Type 0} → LevelsRequest → ℕ → Listed → Judgement → Seen → Seen → Result A RunFault → Type 0
+SendsJudged request n listed judgement old new (Ok value) =
+    WritesWhole old new (level_line request.table request.settings n listed judgement)
+SendsJudged request n listed judgement old new (Err Write) =
+    WritesPart old new (level_line request.table request.settings n listed judgement)
+SendsJudged request n listed judgement old new (Err OutOfMemory) = new ≡ old
+SendsJudged request n listed judgement old new (Err fault) = ⊥
+
+-- what reporting on level n does: the sink takes a right line, and its kind is kept; or a write fails; or memory is
+-- refused, and nothing is written
+abbrev pub SendsLevel : {A : Type 0} → (ℕ → Listed → Reported → Type 0) → ℕ → Listed → List Kind → List Kind → Seen →
+    Seen → Result A RunFault → Type 0
+SendsLevel IsRight n listed kinds more old new (Ok value) =
+    (one : Reported) × IsRight n listed one × WritesWhole old new one.text × (more ≡ kinds ++ one.kind ∷ [])
+SendsLevel IsRight n listed kinds more old new (Err Write) =
     (one : Reported) × IsRight n listed one × WritesPart old new one.text
-SendsLevel IsRight n listed totals old new (Err OutOfMemory) = new ≡ old
-SendsLevel IsRight n listed totals old new (Err fault) = ⊥
+SendsLevel IsRight n listed kinds more old new (Err OutOfMemory) = new ≡ old
+SendsLevel IsRight n listed kinds more old new (Err fault) = ⊥
 
 -- the head line and the lines of all levels of these bytes with numbers in a range were written; the collection has
--- this number of levels, and these are the totals of those in the range
-pub record SendsLevels (IsRight : ℕ → Listed → Reported → Type 0) (head : List ℕ) (from to : ℕ) (bytes : List ℕ)
-    (count : ℕ) (totals : Totals) (old new : Seen) : Type 0 where
+-- this number of levels, and those in the range are of these kinds
+pub record SendsLevels (IsRight : ℕ → Listed → Reported → Type 0) (request : LevelsRequest) (bytes : List ℕ)
+    (count : ℕ) (kinds : List Kind) (old new : Seen) : Type 0 where
   pub listing : List Listed
   pub lists : IsLevelListing bytes listing
   pub begins : BeginsListing bytes listing
   pub reported : List Reported
-  pub right : AreReported IsRight from to listing reported
+  pub right : AreReported IsRight request.from request.to listing reported
   pub count_is : count ≡ length listing
-  pub totals_are : totals ≡ totals_of reported
-  pub few : AreFewLevels totals
-  pub written : WritesLines old new (head ∷ lines_of reported)
+  pub kinds_are : kinds ≡ kinds_of reported
+  pub written : WritesLines old new (head_of request.table ∷ lines_of reported)
 
 -- what writing the last line does: the sink takes it, and the status is answered; or a write fails; or memory is
 -- refused, and nothing is written

@@ -3,8 +3,8 @@ ghost use Rattle.std.specs.Prelude.{⊤};
 
 use crate::{Paper, Pieces};
 use sokopar::{
-    CollectionRequest, Folder, Reader, RunFault, SearchConfig, SolutionsRequest, Unwatched, Writer,
-    run_best_collection, run_prove_collection,
+    Folder, LevelsRequest, Reader, RunFault, Settings, Unwatched, Writer, run_best_collection,
+    run_prove_collection,
 };
 use std::alloc::Global;
 use std::process::Abort;
@@ -18,17 +18,17 @@ const LEVELS: &[u8] =
 fn a_table_has_a_row_for_each_level(rt: HostRuntime) {
     let alloc = rt.alloc();
     let mut paper = Paper::new(alloc, usize::MAX, 0);
-    let config = SearchConfig {
-        workers: 1,
-        limit: 1_000,
+    let settings = Settings {
         cap: None,
+        limit: 1_000,
         moves: true,
     };
-    let request = CollectionRequest {
+    let request = LevelsRequest {
         from: 1,
         to: 5,
         table: true,
-        config,
+        workers: 1,
+        settings,
     };
     let status = run_best_collection(
         &rt,
@@ -41,12 +41,12 @@ fn a_table_has_a_row_for_each_level(rt: HostRuntime) {
     assert_eq!(&rt; status, Ok(1));
     assert_eq!(&rt;
         paper.text.as_slice(),
-        b"level\tline\tboxes\tverdict\tgiven pushes\tgiven moves\tpushes\tmoves\tat least\tname\tsolution\n\
-        1\t2\t1\toptimal\t\t\t1\t1\t\ta name\tR\n\
-        2\t6\t2\toptimal\t\t\t3\t4\t\t\tRlLL\n\
-        3\t11\t2\tunsolvable\t\t\t\t\t\t\t\n\
-        4\t16\t1\toptimal\t\t\t0\t0\t\t\t\n\
-        5\t20\t\tfault 3 NoPlayer\t\t\t\t\t\t\t\n"
+        b"level\tline\tboxes\tverdict\tproved\tgiven_pushes\tgiven_moves\tpushes\tmoves\tat_least\tlimit\tname\tsolution\n\
+        1\t2\t1\toptimal\tpushes and moves\t\t\t1\t1\t\t\ta name\tR\n\
+        2\t6\t2\toptimal\tpushes and moves\t\t\t3\t4\t\t\t\tRlLL\n\
+        3\t11\t2\tunsolvable\t\t\t\t\t\t\t\t\t\n\
+        4\t16\t1\toptimal\tpushes and moves\t\t\t0\t0\t\t\t\t\n\
+        5\t20\t\tfault\t\t\t\t\t\t\t\t\t\n"
             .as_slice()
     );
     assert_eq!(&rt; paper.writes, 6);
@@ -95,13 +95,17 @@ fn proves_all<R: Threads + Sync + Abort>(
         solutions: &solutions,
         unread,
     };
-    let request = SolutionsRequest {
+    let settings = Settings {
+        cap: None,
+        limit: 1_000,
+        moves: false,
+    };
+    let request = LevelsRequest {
         from: 1,
         to: 5,
         table,
         workers: 1,
-        limit: 1_000,
-        moves: false,
+        settings,
     };
     let answer = run_prove_collection(
         rt,
@@ -139,10 +143,10 @@ fn a_solution_that_cannot_be_read_has_a_line(rt: HostRuntime) {
 #[test]
 fn a_table_has_a_row_for_each_solution(rt: HostRuntime) {
     let report =
-        b"level\tline\tboxes\tverdict\tgiven pushes\tgiven moves\tpushes\tmoves\tat least\tname\tsolution\n\
-        1\t2\t1\toptimal\t1\t1\t\t\t\ta name\t\n\
-        2\t6\t2\tbeaten\t5\t14\t3\t4\t\t\tRlLL\n\
-        3\t11\t2\tbad byte at 1\t\t\t\t\t\t\t\n\
-        5\t20\t\tfault 3 NoPlayer\t\t\t\t\t\t\t\n";
+        b"level\tline\tboxes\tverdict\tproved\tgiven_pushes\tgiven_moves\tpushes\tmoves\tat_least\tlimit\tname\tsolution\n\
+        1\t2\t1\toptimal\tpushes\t1\t1\t1\t1\t\t\ta name\t\n\
+        2\t6\t2\tbeaten\tpushes\t5\t14\t3\t4\t\t\t\tRlLL\n\
+        3\t11\t2\tbad_text\t\t\t\t\t\t\t\t\t\n\
+        5\t20\t\tfault\t\t\t\t\t\t\t\t\t\n";
     proves_all(&rt, rt.alloc(), 0, true, report.as_slice(), 1);
 }

@@ -1,8 +1,8 @@
 //! The reports of `best` and `prove`, with and without the fewest moves.
 use crate::Paper;
 use sokopar::{
-    BestRequest, CollectionRequest, ProveRequest, Reader, SearchConfig, Unwatched, Writer,
-    run_best, run_best_collection, run_prove,
+    LevelRequest, LevelsRequest, Reader, Settings, Unwatched, Writer, run_best,
+    run_best_collection, run_prove,
 };
 use std::alloc::Global;
 use std::process::Abort;
@@ -11,12 +11,11 @@ use std::thread::Threads;
 /// A room whose solutions with one push have at least two moves.
 const ROOM: &[u8] = b"######\n#@   #\n# $. #\n######\n";
 
-/// Settings of one worker.
-fn config(limit: u32, moves: bool) -> SearchConfig {
-    SearchConfig {
-        workers: 1,
-        limit,
+/// Settings without a cap.
+fn settings(limit: u32, moves: bool) -> Settings {
+    Settings {
         cap: None,
+        limit,
         moves,
     }
 }
@@ -25,9 +24,10 @@ fn config(limit: u32, moves: bool) -> SearchConfig {
 fn best_looks_for_the_fewest_moves_if_they_are_wanted(rt: HostRuntime) {
     let alloc = rt.alloc();
     let mut paper = Paper::new(alloc, usize::MAX, 0);
-    let request = BestRequest {
+    let request = LevelRequest {
         number: 1,
-        config: config(1_000, true),
+        workers: 1,
+        settings: settings(1_000, true),
         lurd: false,
     };
     let status = run_best(
@@ -49,11 +49,12 @@ fn best_looks_for_the_fewest_moves_if_they_are_wanted(rt: HostRuntime) {
 fn levels_of_a_collection_have_the_fewest_moves_if_they_are_wanted(rt: HostRuntime) {
     let alloc = rt.alloc();
     let mut paper = Paper::new(alloc, usize::MAX, 0);
-    let request = CollectionRequest {
+    let request = LevelsRequest {
         from: 1,
         to: 1,
         table: false,
-        config: config(1_000, true),
+        workers: 1,
+        settings: settings(1_000, true),
     };
     let status = run_best_collection(
         &rt,
@@ -75,16 +76,15 @@ fn proves<R: Threads + Sync + Abort>(
     rt: &R,
     alloc: Global,
     solution: &[u8],
-    config: SearchConfig,
+    settings: Settings,
     report: &[u8],
     status: u8,
 ) {
     let mut paper = Paper::new(alloc, usize::MAX, 0);
-    let request = ProveRequest {
+    let request = LevelRequest {
         number: 1,
-        workers: config.workers,
-        limit: config.limit,
-        moves: config.moves,
+        workers: 1,
+        settings,
         lurd: false,
     };
     let answer = run_prove(
@@ -145,7 +145,7 @@ fn prove_says_which_moves_are_the_fewest(rt: HostRuntime) {
             &rt,
             rt.alloc(),
             solution,
-            config(limit, moves),
+            settings(limit, moves),
             report,
             status,
         );

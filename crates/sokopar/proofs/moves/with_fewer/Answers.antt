@@ -1,5 +1,0 @@
-use Rattle.shortest.proofs.lemmas.Fewest.{still_fewest}
-use Rattle.sokopar.proofs.moves.with_fewer.Goals as goal
-
-pub returns : goal.returns
-returns c = still_fewest c.args.level.now c.args.moves c.improved.result c.args.pushes c.requires.solved c.requires.fewest c.improved.ensures

@@ -1,0 +1,15 @@
+-- What was written is the report of what was read.
+use Rattle.std.proofs.Common.{ℕ, List, true, subst}
+use Rattle.sokopar.specs.Levels.{BeginsReport, IsProveLine, IsReport}
+use Rattle.sokopar.specs.inside.Sending.{SendsByLine}
+use Rattle.sokopar.proofs.ByLine.{runs_by_line}
+use Rattle.sokopar.proofs.proving.run_prove_collection.Goals as goal
+
+pub returns : goal.returns
+returns g c =
+    let request = c.args.request in
+    let IsRight = IsProveLine (g.D.Folder.opened c.args.folder.now) g.D.File.Source.seen request in
+    let P : List ℕ → Type 0 = λ bytes. SendsByLine (IsReport IsRight true request bytes) (BeginsReport IsRight request bytes)
+    (g.K.Sink.seen c.args.sink.now) (g.K.Sink.seen c.send_report.new.sink) c.send_report.result in
+    runs_by_line (IsReport IsRight true request) (BeginsReport IsRight request) _ _ _ _ _ c.send_report.result
+    c.in_ok-bytes.ensures.ok (subst P c.as_slice.ensures.value c.send_report.ensures)

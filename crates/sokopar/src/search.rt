@@ -1,0 +1,221 @@
+//! The searches of `best`, and what is known after them.
+ghost use Rattle.std.specs.Prelude.{◌≡◌, ◌≤◌, ◌<◌, false, None, IfOk, IfSome, length};
+ghost use Rattle.grid.specs.Board.{Board};
+ghost use Rattle.grid.specs.Lawful.{box_count};
+ghost use Rattle.lurd.specs.Verdict.{IsVerdict};
+ghost use Rattle.lurd.specs.declared.verdict.Verdict.TheVariants.{Solved};
+ghost use Rattle.judging.specs.declared.judgement.Counts.{Counts as CountsOf};
+ghost use Rattle.prices.specs.Fewest.{NoneHasFewer};
+ghost use Rattle.prover.specs.Outcomes.{IsOutcome};
+ghost use Rattle.prices.specs.Searching.{SomeHas};
+ghost use Rattle.shortest.specs.Improving.{IsNoWorse};
+ghost use Rattle.shortest.specs.Outcomes.{IsMovesOutcome};
+ghost use Rattle.sokopar.specs.Judging.{IsJudged, IsJudgedOn, IsWithinCap};
+ghost use Rattle.sokopar.specs.inside.Parts.{IsBeside, IsCompared, failed, found_known, given_known};
+
+use grid::{Level, LevelFault, MAX_BOXES, Moves};
+use judging::{Counts, Judgement, Known, MovesClaim, Settings, Solution};
+use prover::{Outcome, Progress, SearchFault};
+use shortest::{Aim, MovesOutcome, improve, search_moves};
+use std::alloc::{AllocError, Global};
+use std::thread::Threads;
+
+/// What is known once a solution is found.
+pub(crate) fn found_known(
+    given: Option<Counts>,
+    letters: Moves,
+    pushes: usize,
+    at_least: usize,
+    claim: MovesClaim,
+) -> Known
+    ensures { result ≡ found_known given letters pushes at_least claim }
+{
+    let moves = letters.len();
+    let counts = Counts { pushes, moves };
+    Known {
+        given,
+        found: Some(Solution { letters, counts }),
+        at_least,
+        claim,
+    }
+}
+
+/// What is known if no solution is found that is better than the given one.
+pub(crate) fn given_known(given: Option<Counts>, at_least: usize, claim: MovesClaim) -> Known
+    ensures { result ≡ given_known given at_least claim }
+{
+    Known {
+        given,
+        found: None,
+        at_least,
+        claim,
+    }
+}
+
+/// The judgement of what is known; every solution has at least `at_least` pushes if memory ran out.
+pub(crate) fn judged(
+    known: Result<Known, AllocError>,
+    given: Option<Counts>,
+    at_least: usize,
+) -> Judgement
+    ensures { (set : Settings) (board : Board) → NoneHasFewer board at_least →
+        IfOk known (λ is. IsBeside set board given is) → IsCompared set board given result }
+{
+    match known {
+        Ok(known) => Judgement::Searched(known),
+        Err(_) => Judgement::OutOfMemory {
+            given,
+            at_least: Some(at_least),
+        },
+    }
+}
+
+/// The judgement if a search failed.
+pub(crate) fn failed(given: Option<Counts>, fault: SearchFault) -> Judgement
+    ensures { result ≡ failed given fault }
+{
+    match fault {
+        SearchFault::TooManyBoxes => Judgement::TooManyBoxes(given),
+        SearchFault::OutOfMemory { at_least } => Judgement::OutOfMemory {
+            given,
+            at_least: Some(at_least as usize),
+        },
+    }
+}
+
+/// Searches for the fewest moves among the solutions with the fewest pushes, given their number.
+pub(crate) fn search_fewest(
+    alloc: Global,
+    level: &Level,
+    pushes: u32,
+    limit: u32,
+) -> Result<MovesOutcome, AllocError>
+    requires some { SomeHas level.now pushes }
+    requires fewest { NoneHasFewer level.now pushes }
+    requires few { box_count level.now ≤ MAX_BOXES }
+    ensures { IfOk result (λ outcome. IsMovesOutcome level.now pushes limit outcome) }
+{
+    match search_moves(alloc, level, pushes, limit) {
+        Ok(outcome) => Ok(outcome),
+        Err(SearchFault::OutOfMemory { .. }) => Err(AllocError),
+        Err(SearchFault::TooManyBoxes) => unreachable!(),
+    }
+}
+
+/// How many states a search near a solution lists in all, under a limit of positions of the search before it.
+fn states_near(aim: Aim, limit: u32) -> usize {
+    let states = match aim {
+        Aim::FewerPushes => limit,
+        Aim::FewerMoves => limit / 10,
+    };
+    states.max(50_000) as usize
+}
+
+/// The moves, or better ones that a search near them finds, under a limit of positions of the search before it.
+pub(crate) fn improved(alloc: Global, level: &Level, moves: Moves, aim: Aim, limit: u32) -> Moves
+    ensures { IsNoWorse level.now moves result }
+{
+    let mut moves = moves;
+    // If it runs out of memory, the moves are the best ones so far.
+    let _ = improve(alloc, level, &mut moves, aim, states_near(aim, limit));
+    moves
+}
+
+/// The solution, or one with as many pushes and fewer moves that a search near it finds.
+fn with_fewer(alloc: Global, level: &Level, moves: Moves, pushes: u32, limit: u32) -> Moves
+    requires solved { IsVerdict level.now moves (Solved pushes (length moves)) }
+    requires fewest { NoneHasFewer level.now pushes }
+    ensures { IsVerdict level.now result (Solved pushes (length result)) }
+{
+    improved(alloc, level, moves, Aim::FewerMoves, limit)
+}
+
+/// What is known, given a solution with the fewest pushes, fewer than a given one has. If the fewest moves are wanted, it
+/// looks for them. If they are not, or that search ends at its limit, it saves moves of the solution where it can.
+pub(crate) fn with_fewest_pushes(
+    alloc: Global,
+    level: &Level,
+    given: Option<Counts>,
+    moves: Moves,
+    pushes: u32,
+    settings: Settings,
+) -> Result<Known, AllocError>
+    requires solved { IsVerdict level.now moves (Solved pushes (length moves)) }
+    requires fewest { NoneHasFewer level.now pushes }
+    requires within { IsWithinCap settings.cap pushes }
+    requires fewer { IfSome given (λ (s : CountsOf). pushes < s.pushes) }
+    requires few { box_count level.now ≤ MAX_BOXES }
+    ensures { IfOk result (λ known. IsBeside settings level.now given known) }
+{
+    let count = pushes as usize;
+    if !settings.moves {
+        let moves = with_fewer(alloc, level, moves, pushes, settings.limit);
+        return Ok(found_known(given, moves, count, count, MovesClaim::Counted));
+    }
+    let outcome = search_fewest(alloc, level, pushes, settings.limit)?;
+    match outcome {
+        MovesOutcome::Least { moves } => {
+            Ok(found_known(given, moves, count, count, MovesClaim::Fewest))
+        }
+        MovesOutcome::Limit => {
+            let moves = with_fewer(alloc, level, moves, pushes, settings.limit);
+            Ok(found_known(given, moves, count, count, MovesClaim::Open))
+        }
+    }
+}
+
+/// The judgement of a level after a search for the fewest pushes.
+fn judge_outcome(alloc: Global, level: &Level, outcome: Outcome, settings: Settings) -> Judgement
+    requires outcome { IsOutcome level.now settings.cap settings.limit outcome }
+    requires few { box_count level.now ≤ MAX_BOXES }
+    ensures { IsJudged settings level.now None result }
+{
+    match outcome {
+        Outcome::Least { moves, pushes } => {
+            let known = with_fewest_pushes(alloc, level, None, moves, pushes, settings);
+            judged(known, None, pushes as usize)
+        }
+        Outcome::NoneWithin => Judgement::NoneWithin,
+        Outcome::Unsolvable => Judgement::Unsolvable,
+        Outcome::Limit { at_least } => {
+            Judgement::Searched(given_known(None, at_least as usize, MovesClaim::Counted))
+        }
+    }
+}
+
+/// The judgement of a lawful level, after a search for a solution with the fewest pushes and, if the settings say so, for
+/// the fewest moves of these.
+#[tactic(auto, using(crate::proofs::Judging::failed_judged))]
+fn judge_level<R: Threads + Sync, P: Progress>(
+    rt: &R,
+    alloc: Global,
+    level: &Level,
+    workers: u8,
+    settings: Settings,
+    progress: &mut P,
+) -> Judgement
+    ensures { IsJudged settings level.now None result }
+{
+    let Settings { cap, limit, .. } = settings;
+    match prover::search(rt, alloc, level, cap, limit, workers, progress) {
+        Ok(outcome) => judge_outcome(alloc, level, outcome, settings),
+        Err(fault) => failed(None, fault),
+    }
+}
+
+/// The judgement of a board without a given solution.
+pub(crate) fn judge_board<R: Threads + Sync, P: Progress>(
+    rt: &R,
+    alloc: Global,
+    board: &Result<Level, LevelFault>,
+    workers: u8,
+    settings: Settings,
+    progress: &mut P,
+) -> Judgement
+    ensures { IsJudgedOn false settings board.now None result }
+{
+    match board {
+        Ok(level) => judge_level(rt, alloc, level, workers, settings, progress),
+        Err(fault) => Judgement::Faulty(*fault),
+    }
+}
