@@ -61,6 +61,29 @@ fn next_line(rt: &impl Abort, alloc: Global, boards: &mut Collection<'_>) -> Opt
 }
 
 #[test]
+fn boards_with_rows_are_asked_for_again(rt: HostRuntime) {
+    let mut boards = Collection::of(BOARDS).expect(&rt, "a collection");
+    for lines in [Some((2, 2)), Some((4, 6)), None] {
+        assert_eq!(&rt; lines_of_next(&rt, rt.alloc(), &mut boards), lines);
+    }
+}
+
+// The lines of the first and the last row of the next board. Out of memory, the call is repeated.
+fn lines_of_next(
+    rt: &impl Abort,
+    alloc: Global,
+    boards: &mut Collection<'_>,
+) -> Option<(u32, u32)> {
+    let mut answer = boards.next_source(alloc);
+    if answer.is_err() {
+        answer = boards.next_source(alloc);
+    }
+    assert!(rt; answer.is_ok(), "refused twice");
+    let rows = answer.ok()??.rows.ok()?;
+    Some((rows.places.first()?.line, rows.places.last()?.line))
+}
+
+#[test]
 fn a_level_is_written_again(rt: HostRuntime) {
     let level = level_of(&rt, rt.alloc(), HALL);
     let mut out = BEFORE.to_vec(rt.alloc()).expect(&rt, "memory");
