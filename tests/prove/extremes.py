@@ -46,7 +46,7 @@ BEATEN = r"not optimal {} pushes, \d+ moves, optimal {} pushes, \d+ moves"
 CASES = [
     ("no push", solved(200_000), 1, r"optimal 0 pushes, 400000 moves"),
     ("64 boxes", crowd(36, 8, 8, 1), 50, BEATEN.format(66, 64)),
-    ("64 boxes on the largest grid", crowd(SIDE, 8, 8, 1), 50, OPEN.format(50, 64, 66)),
+    ("64 boxes on the largest grid", crowd(SIDE, 8, 8, 1), 50, BEATEN.format(66, 64)),
     ("the largest grid", crowd(SIDE, 3, 3, 1), 5, BEATEN.format(11, 9)),
     ("pushes to and fro", crowd(20, 3, 3, 20_000), 5, OPEN.format(5, 9, 40_009)),
     ("fewer pushes to and fro", crowd(20, 3, 3, 500), 5, BEATEN.format(1_009, 9)),

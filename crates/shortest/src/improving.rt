@@ -5,6 +5,7 @@ ghost use Rattle.grid.specs.States.{FitsLevel, IsScene};
 ghost use Rattle.shortest.specs.Improving.{IsNoWorse};
 ghost use Rattle.shortest.specs.inside.Nearby.{IsFinderFor};
 
+use crate::aim::Aim;
 use crate::bounds::Bounds;
 use crate::listing::problem_of;
 use crate::near::{Find, Form, Memory, search_near};
@@ -16,30 +17,36 @@ use lurd::{Verdict, replay};
 use std::alloc::{AllocError, Global};
 use successors::Problem;
 
-/// The most states of a layer that the first search expands. A search without success is repeated with `WIDER` times
-/// as many.
-const FIRST_WIDTH: usize = 30;
+/// The most states of a layer that the first search for fewer pushes expands: shortcuts are rare, and narrow searches
+/// miss them.
+const PUSHES_WIDTH: usize = 100;
 
+/// The same for fewer moves: they are often saved close to the solution, and the level may have taken no time.
+const MOVES_WIDTH: usize = 5;
+
+/// A search without success is repeated with this many times the width.
 const WIDER: usize = 3;
 
-/// The most searches for one aim.
+/// Searches for fewer pushes expand at most this many times the states that they may expand without success: more than
+/// real solutions need, but a given one may have any number of detours.
+const PUSHES_TIMES: usize = 20;
+
+/// The same for fewer moves, whose successes are often small.
+const MOVES_TIMES: usize = 2;
+
+/// The most searches with one number of boxes elsewhere.
 const MAX_SEARCHES: usize = 1_000;
+
+/// How often the aims take turns at most.
+const MAX_TURNS: usize = 10;
 
 /// On a grid with this many squares a state takes twice as long as on a small one.
 const SQUARES_A_STATE: usize = 1_000;
 
-/// What [`improve`] looks for.
-#[derive(Clone, Copy, PartialEq, Eq, Debug)]
-pub enum Aim {
-    /// Fewer pushes, and then fewer moves with as many pushes.
-    FewerPushes,
-    /// Fewer moves with as many pushes.
-    FewerMoves,
-}
-
 /// Replaces a solution of the level by a better one, if it finds one: with fewer pushes, or with as many pushes and
-/// fewer moves. It searches states that differ from those of the solution in one or two boxes, and lists at most
-/// `states` of them in all, fewer on a large grid. Moves that do not solve the level stay as they are.
+/// fewer moves. It searches states that differ from those of the solution in one box and, for fewer pushes, in two. It
+/// ends once it has expanded `states` of them without success, fewer on a large grid, or 40 times as many in all.
+/// Moves that do not solve the level stay as they are.
 ///
 /// Fails only if out of memory. Then the moves are the best solution that it found.
 #[tactic(auto, using(crate::proofs::Better::no_worse_same, crate::proofs::Better::no_worse_then))]
@@ -90,7 +97,7 @@ fn improve_over(
     end
 }
 
-// Improves a solution for an aim. Where pushes are counted, a third of the states is left for fewer moves.
+// Improves a solution for an aim.
 #[tactic(auto, using(crate::proofs::Better::no_worse_same, crate::proofs::Better::no_worse_then))]
 fn improve_with(
     alloc: Global,
@@ -103,11 +110,10 @@ fn improve_with(
     requires { IsFinderFor level.now finder.old }
     ensures { IsNoWorse level.now moves.old moves.new }
 {
-    if aim == Aim::FewerMoves {
-        return improve_by(alloc, level, moves, aim, states, finder);
+    match aim {
+        Aim::FewerPushes => save_pushes(alloc, level, moves, states, finder),
+        Aim::FewerMoves => save_moves(alloc, level, moves, states, finder),
     }
-    improve_by(alloc, level, moves, aim, states / 3 * 2, finder)?;
-    improve_by(alloc, level, moves, Aim::FewerMoves, states / 3, finder)
 }
 
 /// What searches near solutions of a level share: its start, its bounds and memory.
@@ -118,13 +124,12 @@ pub(crate) struct Finder<'a> {
     memory: Memory<'a>,
 }
 
-// Improves a solution with one box elsewhere, and then with two.
+// Saves pushes of a solution with one box elsewhere, then with two, and then moves, again until the pushes stay.
 #[tactic(auto, using(crate::proofs::Better::no_worse_same, crate::proofs::Better::no_worse_then))]
-fn improve_by(
+fn save_pushes(
     alloc: Global,
     level: &Level,
     moves: &mut Moves,
-    aim: Aim,
     states: usize,
     finder: &mut Finder<'_>,
 ) -> Result<(), AllocError>
@@ -132,49 +137,85 @@ fn improve_by(
     ensures better { IsNoWorse level.now moves.old moves.new }
     ensures finder { IsFinderFor level.now finder.new }
 {
-    let one = form_of(aim, 1, states / 3 * 2);
-    repeat(alloc, level, moves, one, finder)?;
-    let two = form_of(aim, 2, states / 3);
-    repeat(alloc, level, moves, two, finder)
-}
-
-// The form of a first search. So few states have fewer pushes and one box elsewhere that all are expanded.
-fn form_of(aim: Aim, displaced: u32, states: usize) -> Form {
-    let are_few = aim == Aim::FewerPushes && displaced == 1;
-    Form {
-        aim,
-        displaced,
-        width: if are_few { usize::MAX } else { FIRST_WIDTH },
-        states,
+    let one = form_of(Aim::FewerPushes, 1, states);
+    let two = form_of(Aim::FewerPushes, 2, states);
+    let mut left = states.saturating_mul(PUSHES_TIMES);
+    for _ in 0..MAX_TURNS {
+        let before = push_count(moves);
+        repeat(alloc, level, moves, one, &mut left, finder)?;
+        repeat(alloc, level, moves, two, &mut left, finder)?;
+        save_moves(alloc, level, moves, states, finder)?;
+        if push_count(moves) == before {
+            break;
+        }
     }
+    Ok(())
 }
 
-// Searches near the solution, and again near each better one, until a search without success leaves nothing out or
-// the states are used up.
-#[tactic(auto, using(crate::proofs::Better::no_worse_same, crate::proofs::Better::no_worse_then))]
-fn repeat(
+// Saves moves of a solution, with one box elsewhere: two bring next to nothing.
+fn save_moves(
     alloc: Global,
     level: &Level,
     moves: &mut Moves,
-    form: Form,
+    states: usize,
     finder: &mut Finder<'_>,
 ) -> Result<(), AllocError>
     requires finder { IsFinderFor level.now finder.old }
     ensures better { IsNoWorse level.now moves.old moves.new }
     ensures finder { IsFinderFor level.now finder.new }
 {
-    let mut form = form;
+    let form = form_of(Aim::FewerMoves, 1, states);
+    let mut left = states.saturating_mul(MOVES_TIMES);
+    repeat(alloc, level, moves, form, &mut left, finder)
+}
+
+// The form of a first search.
+fn form_of(aim: Aim, displaced: u32, states: usize) -> Form {
+    let width = match aim {
+        Aim::FewerPushes => PUSHES_WIDTH,
+        Aim::FewerMoves => MOVES_WIDTH,
+    };
+    Form {
+        aim,
+        displaced,
+        width,
+        states,
+    }
+}
+
+// Searches near the solution, and again near each better one, until a search without success leaves nothing out, or
+// the states since the last success or those that are left in all are used up.
+#[tactic(auto, using(crate::proofs::Better::no_worse_same, crate::proofs::Better::no_worse_then))]
+fn repeat(
+    alloc: Global,
+    level: &Level,
+    moves: &mut Moves,
+    first: Form,
+    left: &mut usize,
+    finder: &mut Finder<'_>,
+) -> Result<(), AllocError>
+    requires finder { IsFinderFor level.now finder.old }
+    ensures better { IsNoWorse level.now moves.old moves.new }
+    ensures finder { IsFinderFor level.now finder.new }
+{
+    let mut form = first;
+    // so narrow that the states last to the end
+    let layers = push_count(moves).max(1);
+    form.width = first.width.min(first.states / layers).max(1);
     for _ in 0..MAX_SEARCHES {
+        form.states = form.states.min(*left);
+        if form.states == 0 {
+            break;
+        }
         let find = search_once(alloc, level, moves, form, finder)?;
         let is_better = take_if_some(alloc, level, moves, &find.pushes)?;
-        if !is_better {
-            if !find.is_cut {
-                break;
-            }
+        *left = left.saturating_sub(find.expanded);
+        form.states = form.states.saturating_sub(find.expanded);
+        if is_better {
+            form.states = first.states;
+        } else if find.is_cut {
             form.width = form.width.saturating_mul(WIDER);
-        }
-        form.states = form.states.saturating_sub(find.listed);
-        if form.states == 0 {
+        } else {
             break;
         }
     }

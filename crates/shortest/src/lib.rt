@@ -13,6 +13,7 @@
 //! [`improve`] takes less time: it saves moves of a given solution, piece by piece, and does not promise the fewest.
 #![tactic(auto)]
 
+mod aim;
 mod bounds;
 mod improving;
 mod listing;
@@ -25,6 +26,7 @@ mod states;
 mod trail;
 mod ways;
 
-pub use improving::{Aim, improve};
+pub use aim::Aim;
+pub use improving::improve;
 pub use outcome::MovesOutcome;
 pub use searching::search_moves;

@@ -2,8 +2,8 @@
 //!
 //! The search goes by layers: layer k has states after k pushes. It keeps the fewest moves that it found to each. A
 //! state is listed if few of its boxes are elsewhere than in some position of the solution round the layer, and if the
-//! bounds allow its pushes. For fewer pushes with one box elsewhere, a layer is expanded whole. Otherwise its states of
-//! the best ranks are, and always that of the solution. This is a guess: contracts say only that the calls are safe.
+//! bounds allow its pushes. The states of a layer with the best ranks are expanded, and always that of the solution.
+//! This is a guess: contracts say only that the calls are safe.
 ghost use Rattle.std.specs.Prelude.{◌≡◌, ◌≤◌, IfOk, IfSome, Some};
 ghost use Rattle.grid.specs.Lawful.{box_count};
 ghost use Rattle.grid.specs.States.{FitsLevel};
@@ -12,14 +12,14 @@ ghost use Rattle.store.specs.FoundView.{FitsGrid};
 ghost use Rattle.successors.specs.Expanding.{HasPushesOf};
 ghost use Rattle.shortest.specs.inside.Nearby.{IsListFor, IsMemoryFor};
 
+use crate::aim::Aim;
 use crate::bounds::Bounds;
-use crate::improving::Aim;
 use crate::listing::{Workspace, state_after};
 use crate::states::{Reached, reached_at};
 use crate::trail::{Nearness, Trail, Vicinity};
 use area::Walks;
 use grid::{Level, MAX_BOXES, Position, Push};
-use prices::{Matching, Slack};
+use prices::Slack;
 use std::alloc::{AllocError, Global};
 use store::{Label, Parent, Visited};
 use successors::Problem;
@@ -42,16 +42,16 @@ pub(crate) struct Form {
     pub(crate) displaced: u32,
     /// The most states of a layer that are expanded.
     pub(crate) width: usize,
-    /// The most states that are listed.
+    /// The most states that are expanded.
     pub(crate) states: usize,
 }
 
-/// How a search ended: with the pushes of a solution, or without; the number of listed states; and whether the width
-/// kept it from expanding some of them.
+/// How a search ended: with the pushes of a solution, or without; the number of expanded states; and whether the
+/// width kept it from expanding some that it listed.
 #[derive(Default, Drop)]
 pub(crate) struct Find {
     pub(crate) pushes: Option<Vec<Push>>,
-    pub(crate) listed: usize,
+    pub(crate) expanded: usize,
     pub(crate) is_cut: bool,
 }
 
@@ -85,12 +85,25 @@ struct Layer<'a> {
 }
 
 /// What a search has to know of the layer that it expands next: the positions of the solution round it, and the ranks
-/// and places of its states; and whether the width kept it from expanding some states.
+/// and places of the states to expand; the number of states that are expanded up to that layer; and whether the width
+/// kept the search from expanding some.
 #[derive(Drop)]
 pub(crate) struct Front {
     vicinity: Vicinity,
     ranked: Vec<(u32, usize)>,
+    expanded: usize,
     is_cut: bool,
+}
+
+impl Front {
+    // Goes on to a layer with these ranks and places: as many of the first as the form allows.
+    fn take(&mut self, ranked: Vec<(u32, usize)>, form: Form) {
+        self.is_cut |= ranked.len() > form.width;
+        self.ranked = ranked;
+        let left = form.states.saturating_sub(self.expanded);
+        self.ranked.truncate(left.min(form.width));
+        self.expanded = self.expanded.saturating_add(self.ranked.len());
+    }
 }
 
 /// Searches for a solution with at most as many pushes as the bounds say. Fails only if out of memory.
@@ -133,9 +146,11 @@ fn find_in(
     let mut front = Front {
         vicinity: Vicinity::of(alloc, bounds.level(), trail)?,
         ranked: vec![in alloc; (0, 0); 1]?,
+        expanded: 1,
         is_cut: false,
     };
     let end = list_layers(alloc, bounds, trail, form, &mut front, listed, memory);
+    let expanded = front.expanded;
     let is_cut = front.is_cut;
     drop(front);
     let pushes = match end? {
@@ -144,7 +159,7 @@ fn find_in(
     };
     Ok(Find {
         pushes,
-        listed: listed.len(),
+        expanded,
         is_cut,
     })
 }
@@ -167,12 +182,11 @@ fn list_layers(
         let begin = listed.len();
         list_layer(bounds, trail, form, pushes, front, listed, memory)?;
         let solved = solved_since(bounds.level(), listed, begin);
-        if solved.is_some() || listed.len() == begin || listed.len() >= form.states {
+        if solved.is_some() || listed.len() == begin {
             return Ok(solved);
         }
-        front.ranked = ranks_since(alloc, trail, pushes, begin, listed)?;
-        front.is_cut |= front.ranked.len() > form.width;
-        front.ranked.truncate(form.width);
+        let ranked = ranks_since(alloc, trail, pushes, begin, listed)?;
+        front.take(ranked, form);
     }
     Ok(None)
 }
@@ -203,7 +217,7 @@ fn list_layer(
     expand_all(bounds, &layer, front.ranked.as_slice(), listed, memory)
 }
 
-// Lists the states after those at some places, until there are as many as the form allows.
+// Lists the states after those at some places.
 fn expand_all(
     bounds: &Bounds<'_>,
     layer: &Layer<'_>,
@@ -218,7 +232,7 @@ fn expand_all(
 {
     for row in ranked {
         let (_, place) = *row;
-        if place >= listed.len() || listed.len() >= layer.form.states {
+        if place >= listed.len() {
             break;
         }
         let from = reached_at(listed, place);
@@ -246,7 +260,6 @@ fn expand(
 {
     memory.workspace.expander.find_pushes(&from.state);
     memory.walks.measure(bounds.level(), &from.state);
-    memory.workspace.matching = Matching::new();
     bounds
         .distances()
         .meet(&from.state, &mut memory.workspace.matching);

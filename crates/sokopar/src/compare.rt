@@ -14,6 +14,7 @@ ghost use Rattle.judging.specs.declared.judgement.MovesClaim.TheVariants.{Open};
 use crate::search::{
     failed, found_known, given_known, improved, judged, search_fewest, with_fewest_pushes,
 };
+use crate::tally::Tally;
 use grid::{Level, MAX_BOXES, Moves};
 use judging::{Counts, Judgement, Known, MovesClaim, Settings};
 use lurd::{Verdict, replay};
@@ -52,7 +53,7 @@ fn beside_open_moves(
     requires open { IsClaim settings level.now given Open }
     ensures { IfOk result (λ known. IsBeside settings level.now (Some given) known) }
 {
-    let moves = improved(alloc, level, moves, Aim::FewerMoves, settings.limit);
+    let moves = improved(alloc, level, moves, Aim::FewerMoves, settings.limit as usize);
     let verdict = replay(alloc, level, &moves)?;
     let Verdict::Solved { pushes, .. } = verdict else {
         return Ok(given_known(Some(given), given.pushes, MovesClaim::Open));
@@ -112,7 +113,7 @@ fn beside_open_pushes(
     ensures { IfOk result (λ known. IsBeside settings level.now (Some given) known) }
 {
     let at_least = bound as usize;
-    let moves = improved(alloc, level, moves, Aim::FewerPushes, settings.limit);
+    let moves = improved(alloc, level, moves, Aim::FewerPushes, settings.limit as usize);
     let verdict = replay(alloc, level, &moves)?;
     let Verdict::Solved { pushes, .. } = verdict else {
         return Ok(given_known(Some(given), at_least, MovesClaim::Counted));
@@ -123,7 +124,8 @@ fn beside_open_pushes(
     if at_least < pushes {
         return Ok(found_known(Some(given), moves, pushes, at_least, MovesClaim::Counted));
     }
-    with_fewest_pushes(alloc, level, Some(given), moves, pushes as u32, settings)
+    let found = settings.limit as usize;
+    with_fewest_pushes(alloc, level, Some(given), moves, pushes as u32, found, settings)
 }
 
 /// The judgement of a solution with these numbers of pushes and moves.
@@ -154,17 +156,11 @@ pub(crate) fn compare<R: Threads + Sync, P: Progress>(
         return judged(known, Some(given), given.pushes);
     }
     let most = (given.pushes - 2) as u32;
-    match prover::search(
-        rt,
-        alloc,
-        level,
-        Some(most),
-        settings.limit,
-        workers,
-        progress,
-    ) {
+    let limit = settings.limit;
+    let mut tally = Tally::of(progress);
+    match prover::search(rt, alloc, level, Some(most), limit, workers, &mut tally) {
         Ok(Outcome::Least { moves, pushes }) => {
-            let known = with_fewest_pushes(alloc, level, Some(given), moves, pushes, settings);
+            let known = with_fewest_pushes(alloc, level, Some(given), moves, pushes, tally.found(), settings);
             judged(known, Some(given), pushes as usize)
         }
         Ok(Outcome::NoneWithin) => {

@@ -48,6 +48,7 @@ mod show;
 mod sink;
 mod solve;
 mod source;
+mod tally;
 mod trail;
 mod watch;
 mod writes;

@@ -13,6 +13,7 @@ ghost use Rattle.shortest.specs.Outcomes.{IsMovesOutcome};
 ghost use Rattle.sokopar.specs.Judging.{IsJudged, IsJudgedOn, IsWithinCap};
 ghost use Rattle.sokopar.specs.inside.Parts.{IsBeside, IsCompared, failed, found_known, given_known};
 
+use crate::tally::Tally;
 use grid::{Level, LevelFault, MAX_BOXES, Moves};
 use judging::{Counts, Judgement, Known, MovesClaim, Settings, Solution};
 use prover::{Outcome, Progress, SearchFault};
@@ -102,42 +103,35 @@ pub(crate) fn search_fewest(
     }
 }
 
-/// How many states a search near a solution lists in all, under a limit of positions of the search before it.
-fn states_near(aim: Aim, limit: u32) -> usize {
-    let states = match aim {
-        Aim::FewerPushes => limit,
-        Aim::FewerMoves => limit / 10,
-    };
-    states.max(50_000) as usize
-}
-
-/// The moves, or better ones that a search near them finds, under a limit of positions of the search before it.
-pub(crate) fn improved(alloc: Global, level: &Level, moves: Moves, aim: Aim, limit: u32) -> Moves
+/// The moves, or better ones that a search near them finds, after a search that found this many positions.
+pub(crate) fn improved(alloc: Global, level: &Level, moves: Moves, aim: Aim, found: usize) -> Moves
     ensures { IsNoWorse level.now moves result }
 {
     let mut moves = moves;
     // If it runs out of memory, the moves are the best ones so far.
-    let _ = improve(alloc, level, &mut moves, aim, states_near(aim, limit));
+    let _ = improve(alloc, level, &mut moves, aim, aim.states_after(found));
     moves
 }
 
 /// The solution, or one with as many pushes and fewer moves that a search near it finds.
-fn with_fewer(alloc: Global, level: &Level, moves: Moves, pushes: u32, limit: u32) -> Moves
+fn with_fewer(alloc: Global, level: &Level, moves: Moves, pushes: u32, found: usize) -> Moves
     requires solved { IsVerdict level.now moves (Solved pushes (length moves)) }
     requires fewest { NoneHasFewer level.now pushes }
     ensures { IsVerdict level.now result (Solved pushes (length result)) }
 {
-    improved(alloc, level, moves, Aim::FewerMoves, limit)
+    improved(alloc, level, moves, Aim::FewerMoves, found)
 }
 
-/// What is known, given a solution with the fewest pushes, fewer than a given one has. If the fewest moves are wanted, it
-/// looks for them. If they are not, or that search ends at its limit, it saves moves of the solution where it can.
+/// What is known, given a solution with the fewest pushes, fewer than a given one has, after a search that found this many
+/// positions. If the fewest moves are wanted, it looks for them. If they are not, or that search ends at its limit, it
+/// saves moves of the solution where it can.
 pub(crate) fn with_fewest_pushes(
     alloc: Global,
     level: &Level,
     given: Option<Counts>,
     moves: Moves,
     pushes: u32,
+    found: usize,
     settings: Settings,
 ) -> Result<Known, AllocError>
     requires solved { IsVerdict level.now moves (Solved pushes (length moves)) }
@@ -149,7 +143,7 @@ pub(crate) fn with_fewest_pushes(
 {
     let count = pushes as usize;
     if !settings.moves {
-        let moves = with_fewer(alloc, level, moves, pushes, settings.limit);
+        let moves = with_fewer(alloc, level, moves, pushes, found);
         return Ok(found_known(given, moves, count, count, MovesClaim::Counted));
     }
     let outcome = search_fewest(alloc, level, pushes, settings.limit)?;
@@ -158,21 +152,27 @@ pub(crate) fn with_fewest_pushes(
             Ok(found_known(given, moves, count, count, MovesClaim::Fewest))
         }
         MovesOutcome::Limit => {
-            let moves = with_fewer(alloc, level, moves, pushes, settings.limit);
+            let moves = with_fewer(alloc, level, moves, pushes, settings.limit as usize);
             Ok(found_known(given, moves, count, count, MovesClaim::Open))
         }
     }
 }
 
-/// The judgement of a level after a search for the fewest pushes.
-fn judge_outcome(alloc: Global, level: &Level, outcome: Outcome, settings: Settings) -> Judgement
+/// The judgement of a level after a search for the fewest pushes that found this many positions.
+fn judge_outcome(
+    alloc: Global,
+    level: &Level,
+    outcome: Outcome,
+    found: usize,
+    settings: Settings,
+) -> Judgement
     requires outcome { IsOutcome level.now settings.cap settings.limit outcome }
     requires few { box_count level.now ≤ MAX_BOXES }
     ensures { IsJudged settings level.now None result }
 {
     match outcome {
         Outcome::Least { moves, pushes } => {
-            let known = with_fewest_pushes(alloc, level, None, moves, pushes, settings);
+            let known = with_fewest_pushes(alloc, level, None, moves, pushes, found, settings);
             judged(known, None, pushes as usize)
         }
         Outcome::NoneWithin => Judgement::NoneWithin,
@@ -197,8 +197,9 @@ fn judge_level<R: Threads + Sync, P: Progress>(
     ensures { IsJudged settings level.now None result }
 {
     let Settings { cap, limit, .. } = settings;
-    match prover::search(rt, alloc, level, cap, limit, workers, progress) {
-        Ok(outcome) => judge_outcome(alloc, level, outcome, settings),
+    let mut tally = Tally::of(progress);
+    match prover::search(rt, alloc, level, cap, limit, workers, &mut tally) {
+        Ok(outcome) => judge_outcome(alloc, level, outcome, tally.found(), settings),
         Err(fault) => failed(None, fault),
     }
 }
