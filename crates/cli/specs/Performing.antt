@@ -84,18 +84,19 @@ module _ {File : Type 0} (opens : List ℕ → Option File → Type 0) (seen : F
   RunsEngine refuses path (Best search) =
       RunsOn (Written search.lurd (λ bytes. IsLevelReport false search.settings search.number bytes None)) path
   RunsEngine refuses path (BestCollection search) =
-      RunsOnByLine (IsReport (IsBestLine search) false search) (BeginsReport (IsBestLine search) search) path
+      RunsOnByLine (IsReport (IsBestLine search) None search) (BeginsReport (IsBestLine search) search) path
   RunsEngine refuses path (Prove search solution) =
       RunsOnTwo (WrittenOfTwo search.lurd (IsLevelReport true search.settings search.number)) search.number path
       solution.now
   RunsEngine refuses path (ProveCollection search folder) =
-      RunsOnByLine (IsReport (IsProveLine (OpensSolution opens refuses folder.now) seen search) true search)
+      RunsOnByLine (IsReport (IsProveLine (OpensSolution opens refuses folder.now) seen search) (Some folder.now) search)
       (BeginsReport (IsProveLine (OpensSolution opens refuses folder.now) seen search) search) path
 
--- the solution of the task could not be opened, or memory ran out
+-- the solution of the task, or the folder of its solutions, could not be opened, or memory ran out
 abbrev pub CannotOpenSolution : (List ℕ → Type 0) → Task → Trouble → Type 0
 CannotOpenSolution refuses (Replay number solution) why = CannotOpen refuses solution.now why
 CannotOpenSolution refuses (Prove search solution) why = CannotOpen refuses solution.now why
+CannotOpenSolution refuses (ProveCollection search folder) why = CannotOpen refuses folder.now why
 CannotOpenSolution refuses task why = ⊥
 
 -- how performing ends: as an engine ended, or since a file could not be opened

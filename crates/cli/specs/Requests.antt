@@ -45,12 +45,13 @@ pub record NamesLevel (arguments : List Row) (number : ℕ) (lurd : Bool) : Type
   pub given_lurd : HasFlag arguments (codes "lurd") lurd
 
 -- no level is given, and no flag to write only the solution, and the range of levels has the numbers of the arguments:
--- without them it begins at 1 and has no end; the report is a table exactly if the flag is given
+-- without them it begins at 1 and has no end, and it does not end before it begins; the report is a table exactly if the
+-- flag is given
 pub record NamesRange (arguments : List Row) (from to : ℕ) (table : Bool) : Type 0 where
   pub no_level : LacksText arguments (codes "N")
   pub no_lurd : HasFlag arguments (codes "lurd") false
-  pub first : HasNumberOr arguments (codes "from") 1 MOST from
-  pub last : HasNumberOr arguments (codes "to") MOST MOST to
+  pub first : HasNumberOr arguments (codes "from") 1 1 MOST from
+  pub last : HasNumberOr arguments (codes "to") MOST from MOST to
   pub given_table : HasFlag arguments (codes "table") table
 
 -- the arguments of a subcommand ask for this task: its paths are their texts, its numbers their numbers

@@ -67,8 +67,8 @@ HasNumber arguments name most n = number_in arguments name most ≡ Some n
 abbrev pub MayHaveNumber : List Row → List ℕ → ℕ → ℕ → Option ℕ → Type 0
 MayHaveNumber arguments name least most number = number_if_given arguments name least most ≡ Some number
 
--- the text of the argument with this name is this number, from 1 to a greatest one; or the argument is left out, and
--- the number is the default
-abbrev pub HasNumberOr : List Row → List ℕ → ℕ → ℕ → ℕ → Type 0
-HasNumberOr arguments name default most n =
-    option_map (λ number. unwrap_or number default) (number_if_given arguments name 1 most) ≡ Some n
+-- the text of the argument with this name is this number of a range; or the argument is left out, and the number is the
+-- default
+abbrev pub HasNumberOr : List Row → List ℕ → ℕ → ℕ → ℕ → ℕ → Type 0
+HasNumberOr arguments name default least most n =
+    option_map (λ number. unwrap_or number default) (number_if_given arguments name least most) ≡ Some n

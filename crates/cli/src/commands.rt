@@ -1,8 +1,10 @@
 //! A function for each subcommand. It opens all its files before it reads the first, and runs its engine. It returns
 //! the exit status.
-ghost use Rattle.std.specs.Prelude.{◌≤◌};
+ghost use Rattle.std.specs.Prelude.{◌≤◌, Some};
 ghost use Rattle.crew.specs.Configured.{IsWithinLimits};
-ghost use Rattle.cli.specs.Performing.{Performs};
+ghost use Rattle.sokopar.specs.Levels.{BeginsReport, IsProveLine, IsReport};
+ghost use Rattle.sokopar.specs.Runs.{RunsByLine};
+ghost use Rattle.cli.specs.Performing.{OpensSolution, Performs};
 
 use crate::meter::Meter;
 use crate::request::Task;
@@ -10,8 +12,9 @@ use crate::system::{Solutions, System};
 use crate::trouble::Trouble;
 use crew::Free;
 use sokopar::{
-    LevelRequest, LevelsRequest, Sink, SolveRequest, run_best, run_best_collection, run_check,
-    run_dead, run_explain, run_prove, run_prove_collection, run_replay, run_show, run_solve_with,
+    LevelRequest, LevelsRequest, RunFault, Sink, SolveRequest, run_best, run_best_collection,
+    run_check, run_dead, run_explain, run_prove, run_prove_collection, run_replay, run_show,
+    run_solve_with,
 };
 use std::alloc::Global;
 use std::sync::Wait;
@@ -188,6 +191,31 @@ pub(crate) fn prove<'a, R: Eprint + Threads + Sync, S: System, K: Sink>(
     )?)
 }
 
+/// Proves the solutions of a folder for the levels of a collection that is open.
+fn prove_solutions<R: Eprint + Threads + Sync, S: System, K: Sink>(
+    rt: &R,
+    system: &S,
+    alloc: Global,
+    source: &mut S::File,
+    folder: &str,
+    search: LevelsRequest,
+    progress: bool,
+    sink: &mut K,
+) -> Result<u8, RunFault>
+    ensures { RunsByLine
+        (IsReport (IsProveLine (OpensSolution S.opens S.refuses folder.now) S.File.seen search) (Some folder.now) search)
+        (BeginsReport (IsProveLine (OpensSolution S.opens S.refuses folder.now) S.File.seen search) search)
+        (S.File.seen source.old) (S.File.seen source.new) (K.seen sink.old) (K.seen sink.new) result }
+{
+    let solutions = Solutions {
+        system,
+        alloc,
+        folder,
+    };
+    let mut meter = Meter::new(rt, progress);
+    run_prove_collection(rt, alloc, source, &solutions, search, &mut meter, sink)
+}
+
 /// Proves that each solution of a folder has the fewest pushes on its level of a part of a collection.
 #[tactic(auto, using(crate::proofs::Running::endings))]
 pub(crate) fn prove_collection<'a, R: Eprint + Threads + Sync, S: System, K: Sink>(
@@ -204,11 +232,15 @@ pub(crate) fn prove_collection<'a, R: Eprint + Threads + Sync, S: System, K: Sin
         file.now (Task.ProveCollection search folder.entry) result }
 {
     let mut source = system.open(file)?;
-    let solutions = Solutions {
+    system.find_folder(folder)?;
+    Ok(prove_solutions(
+        rt,
         system,
         alloc,
+        &mut source,
         folder,
-    };
-    let mut meter = Meter::new(rt, progress);
-    Ok(run_prove_collection(rt, alloc, &mut source, &solutions, search, &mut meter, sink)?)
+        search,
+        progress,
+        sink,
+    )?)
 }

@@ -356,6 +356,7 @@ folder has a file N.lurd, as soon as that is decided, and the totals:
   8 cannot read                          The file cannot be opened or read.
   T levels, .. optimal, .. beaten, ..    The totals, also how many are open, not
                                          judged and without a solution.
+  no solution in FOLDER                  In place of the totals, if there is none.
 The exit status is 0 if all that have a solution are optimal, else 5 if one ran
 out of memory, else 3 if one cannot be read, else 4 if one is open, else 1.
 

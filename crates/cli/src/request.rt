@@ -130,7 +130,7 @@ fn best_task<'a>(matches: &ArgMatches<'a>) -> Result<Task<'a>, BadArgument<'a>>
         None => {
             lacks_flag(matches, "lurd", BadArgument::WithoutLevel("--lurd"))?;
             let from = number_if_given(matches, "from", "--from <A>", 1)?.unwrap_or(1);
-            let to = number_if_given(matches, "to", "--to <B>", 1)?.unwrap_or(MOST);
+            let to = number_if_given(matches, "to", "--to <B>", from)?.unwrap_or(MOST);
             let (workers, settings) = config_of(matches)?;
             let table = has_flag(matches, "table");
             Ok(Task::BestCollection(LevelsRequest {
@@ -183,7 +183,7 @@ fn solutions_task<'a>(
     lacks(matches, "SOLUTION", "[SOLUTION]", "--solutions <FOLDER>")?;
     lacks_flag(matches, "lurd", BadArgument::WithoutLevel("--lurd"))?;
     let from = number_if_given(matches, "from", "--from <A>", 1)?.unwrap_or(1);
-    let to = number_if_given(matches, "to", "--to <B>", 1)?.unwrap_or(MOST);
+    let to = number_if_given(matches, "to", "--to <B>", from)?.unwrap_or(MOST);
     let workers = number_of(matches, "workers", "--workers <W>", MOST_WORKERS)?;
     let limit = number_of(matches, "limit", "--limit <L>", MOST)?;
     let moves = has_flag(matches, "moves");

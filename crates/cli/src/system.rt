@@ -23,6 +23,10 @@ pub(crate) trait System {
         ensures ok { IfOk result (λ file. IsOpened opens Self.File.seen path.now file) }
         ensures err { IfErr result (λ trouble. CannotOpen refuses path.now trouble) };
 
+    /// Fails if the path leads to no folder, or if out of memory.
+    fn find_folder<'a>(&self, path: &'a str) -> Result<(), Trouble<'a>>
+        ensures { IfErr result (λ trouble. CannotOpen refuses path.now trouble) };
+
     /// Opens the file at a path; `None` if there is no such file. Fails with [`RunFault::Read`] if it cannot be opened,
     /// or if out of memory.
     fn open_if_any(&self, path: &str) -> Result<Option<Self::File>, RunFault>
@@ -44,6 +48,12 @@ impl<'s, S: System> Folder for Solutions<'s, S> {
     type File = S::File;
 
     ghost opened = { λ it. OpensSolution S.opens S.refuses it.folder.now };
+
+    ghost path_seen = { λ it. it.folder.now };
+
+    fn path(&self) -> &[u8] {
+        self.folder.as_bytes()
+    }
 
     fn open(&self, number: u32) -> Result<Option<S::File>, RunFault> {
         let folder = self.folder;
@@ -71,14 +81,40 @@ impl<R: Files> System for &R {
         }
     }
 
+    fn find_folder<'b>(&self, path: &'b str) -> Result<(), Trouble<'b>> {
+        match fs::metadata(*self, path) {
+            Ok(found) if found.is_dir() => Ok(()),
+            Ok(_) => Err(Trouble::Open(path)),
+            Err(error) if error.kind() == io::ErrorKind::OutOfMemory => {
+                Err(Trouble::Run(RunFault::OutOfMemory))
+            }
+            Err(_) => Err(Trouble::Open(path)),
+        }
+    }
+
     fn open_if_any(&self, path: &str) -> Result<Option<Reader<Steady<R::File>>>, RunFault> {
         match fs::open(*self, path) {
             Ok(file) => Ok(Some(Reader::new(Steady::new(file)))),
             Err(error) => match error.kind() {
-                io::ErrorKind::NotFound => Ok(None),
+                io::ErrorKind::NotFound => not_there(*self, path),
                 io::ErrorKind::OutOfMemory => Err(RunFault::OutOfMemory),
                 _ => Err(RunFault::Read),
             },
         }
+    }
+}
+
+/// What opening a path gives that leads to no file: none, unless a link is there.
+fn not_there<R: Files, F>(files: &R, path: &str) -> Result<Option<F>, RunFault>
+    ensures none { IfOk result (λ file. file ≡ None) }
+    ensures fault { IfErr result (λ fault. (fault ≡ RunFault.OutOfMemory) ⊎ (fault ≡ RunFault.Read)) }
+{
+    match fs::symlink_metadata(files, path) {
+        Ok(_) => Err(RunFault::Read),
+        Err(error) => match error.kind() {
+            io::ErrorKind::NotFound => Ok(None),
+            io::ErrorKind::OutOfMemory => Err(RunFault::OutOfMemory),
+            _ => Err(RunFault::Read),
+        },
     }
 }

@@ -1,6 +1,5 @@
 pub mod lemmas
 pub mod Marked
-pub mod Filling
 pub mod Equality
 pub mod Settle
 pub mod Bits

@@ -7,3 +7,4 @@ pub mod Plays
 pub mod Levels
 pub mod Rooms
 pub mod Places
+pub mod Filling

@@ -160,6 +160,10 @@ is_in group kind = false
 abbrev pub count_of : Group → List Kind → ℕ
 count_of group kinds = count_by (is_in group) kinds
 
+-- no level has a given solution
+abbrev pub all_missing : List Kind → Bool
+all_missing kinds = count_of group.Missing kinds == length kinds
+
 -- how levels without a solution are counted: under a cap, those without a solution within it
 abbrev pub unsolved_words : Option ℕ → List ℕ
 unsolved_words None = codes "unsolvable"

@@ -15,5 +15,5 @@ pub use judgement::{Counts, Judgement, Known, MovesClaim, Settings, Solution};
 pub use kind::{Group, Kind};
 pub use lines::{head_of, put_judgement, put_letters_line, put_level_line};
 pub use text::{Number, Text};
-pub use totals::{put_totals, worst_status};
+pub use totals::{all_missing, put_totals, worst_status};
 pub use words::NoneWithin;

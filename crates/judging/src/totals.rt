@@ -1,7 +1,7 @@
 //! What a report says of all its levels.
 ghost use Rattle.std.specs.Prelude.{◌≡◌, ◌==◌, ◌++◌, OnOk, false, true};
 ghost use Rattle.std.specs.List.{list_any};
-ghost use Rattle.judging.specs.Kinds.{count_of, counted, kind_status, totals_words, unsolved_words, worst_status};
+ghost use Rattle.judging.specs.Kinds.{all_missing, count_of, counted, kind_status, totals_words, unsolved_words, worst_status};
 ghost use Rattle.judging.specs.Words.{none_words};
 
 use crate::kind::{Group, Kind};
@@ -18,6 +18,13 @@ fn count_of(kinds: &[Kind], group: Group) -> usize
         count += usize::from(kind.is_in(group));
     }
     count
+}
+
+/// Whether no level has a given solution.
+pub fn all_missing(kinds: &[Kind]) -> bool
+    ensures { result ≡ all_missing kinds.now }
+{
+    count_of(kinds, Group::Missing) == kinds.len()
 }
 
 /// Whether one of the kinds has a status.

@@ -1,5 +1,5 @@
 -- A collection, as its levels are judged and written one by one.
-use Rattle.std.proofs.Common.{◌≡◌, ℕ, suc, ◌+◌, ◌<◌, ◌≤◌, Bool, List, [], ◌∷◌, ◌++◌, length, Some, None, Result, Ok, Err}
+use Rattle.std.proofs.Common.{◌≡◌, ℕ, suc, ◌+◌, ◌<◌, ◌≤◌, Option, List, [], ◌∷◌, ◌++◌, length, Some, None, Result, Ok, Err}
 use Rattle.std.proofs.Common.{IfErr, inl, inr, refl, sym, ap, ◌∙◌, subst, arith, length-append}
 use mathlib.Core.List.{map-append}
 use Rattle.xsb.specs.declared.entry.BoardEntry.{BoardEntry}
@@ -9,13 +9,13 @@ use Rattle.xsb.specs.inside.Progress.{HasRead, GivesNext, lines_left}
 use Rattle.sokopar.specs.Ends.{Seen}
 use Rattle.grid.specs.Board.{Board}
 use Rattle.grid.specs.declared.fault.LevelFault.{LevelFault}
-use Rattle.judging.specs.Kinds.{kind_of, worst_status}
+use Rattle.judging.specs.Kinds.{kind_of}
 use Rattle.judging.specs.Table.{head_of, level_line}
 use Rattle.judging.specs.declared.judgement.Judgement.{Judgement}
 use Rattle.judging.specs.declared.kind.Kind.{Kind}
 use Rattle.sokopar.specs.Entries.{listed_of}
 use Rattle.sokopar.specs.Levels.{AreReported, none, outside, inside, BeginsListing, BeginsReport, IsBetween, IsLine, IsReport}
-use Rattle.sokopar.specs.Levels.{EndsWith, beyond, within, Reported, kinds_of, last_line, lines_of}
+use Rattle.sokopar.specs.Levels.{EndsWith, beyond, within, Reported, kinds_of, last_line, last_status, lines_of}
 use Rattle.sokopar.specs.Listing.{Listed}
 use Rattle.sokopar.specs.Report.{no_level}
 use Rattle.sokopar.specs.Runs.{ReadsWhole, RunsByLine, Stops, WritesLines, WritesPart, WritesWhole}
@@ -252,40 +252,40 @@ stopped_last IsRight request bytes count kinds old new is =
     (head_of request.table ∷ lines_of is.reported, (is.listing, is.begins, is.reported, is.right, refl), is.written)
 
 -- the last line ends the report, or is not written whole
-pub sent_last : (IsRight : ℕ → Listed → Reported → Type 0) (given : Bool) (request : LevelsRequest) (bytes : List ℕ) (count : ℕ)
+pub sent_last : (IsRight : ℕ → Listed → Reported → Type 0) (folder : Option (List ℕ)) (request : LevelsRequest) (bytes : List ℕ) (count : ℕ)
     (kinds : List Kind) (old mid new : Seen) (result : Result ℕ RunFault) (is : SendsLevels IsRight request bytes count kinds old mid) →
-    SendsLast request.from (length is.listing) (last_line given request (kinds_of is.reported)) (worst_status (kinds_of is.reported)) mid new result →
-    SendsByLine (IsReport IsRight given request bytes) (BeginsReport IsRight request bytes) old new result
-sent_last IsRight given request bytes count kinds old mid new (Ok status) is sends = (
+    SendsLast request.from (length is.listing) (last_line folder request (kinds_of is.reported)) (last_status folder (kinds_of is.reported)) mid new result →
+    SendsByLine (IsReport IsRight folder request bytes) (BeginsReport IsRight request bytes) old new result
+sent_last IsRight folder request bytes count kinds old mid new (Ok status) is sends = (
   (head_of request.table ∷ lines_of is.reported) ++ sends.0 ∷ [],
   (is.listing, is.lists, is.reported, is.right, sends.0, sends.1, refl),
   runs.more new sends.0 is.written sends.2,
 )
-sent_last IsRight given request bytes count kinds old mid new (Err Write) is sends = (
+sent_last IsRight folder request bytes count kinds old mid new (Err Write) is sends = (
   head_of request.table ∷ lines_of is.reported,
   sends.0,
   inr (sends.1, (is.listing, is.lists, is.reported, is.right, sends.0, sends.2, refl)),
   record { between = mid; whole = is.written; part = sends.3 },
 )
-sent_last IsRight given request bytes count kinds old mid new (Err OutOfMemory) is sends = (
+sent_last IsRight folder request bytes count kinds old mid new (Err OutOfMemory) is sends = (
   head_of request.table ∷ lines_of is.reported,
   (is.listing, is.begins, is.reported, is.right, refl),
   subst (λ (s : Seen). WritesLines old s (head_of request.table ∷ lines_of is.reported)) (sym sends) is.written,
 )
-sent_last IsRight given request bytes count kinds old mid new (Err fault) is sends = absurd sends
+sent_last IsRight folder request bytes count kinds old mid new (Err fault) is sends = absurd sends
 
 -- the text and the status of the last line are by the kinds
-pub sent_all : (IsRight : ℕ → Listed → Reported → Type 0) (given : Bool) (request : LevelsRequest) (bytes : List ℕ) (count : ℕ)
+pub sent_all : (IsRight : ℕ → Listed → Reported → Type 0) (folder : Option (List ℕ)) (request : LevelsRequest) (bytes : List ℕ) (count : ℕ)
     (kinds : List Kind) (old mid new : Seen) (words : List ℕ) (worst : ℕ) (result : Result ℕ RunFault) →
-    SendsLevels IsRight request bytes count kinds old mid → words ≡ last_line given request kinds → worst ≡ worst_status kinds →
+    SendsLevels IsRight request bytes count kinds old mid → words ≡ last_line folder request kinds → worst ≡ last_status folder kinds →
     SendsLast request.from count words worst mid new result →
-    SendsByLine (IsReport IsRight given request bytes) (BeginsReport IsRight request bytes) old new result
-sent_all IsRight given request bytes count kinds old mid new words worst result is shown status sends =
-    let by_text = subst (λ (l : List ℕ). SendsLast request.from count l worst mid new result) (shown ∙ ap (last_line given request) is.kinds_are) sends in
-    let by_status = subst (λ (w : ℕ). SendsLast request.from count (last_line given request (kinds_of is.reported)) w mid new result)
-    (status ∙ ap worst_status is.kinds_are) by_text in
-    sent_last IsRight given request bytes count kinds old mid new result is
-    (subst (λ (n : ℕ). SendsLast request.from n (last_line given request (kinds_of is.reported)) (worst_status (kinds_of is.reported)) mid new result)
+    SendsByLine (IsReport IsRight folder request bytes) (BeginsReport IsRight request bytes) old new result
+sent_all IsRight folder request bytes count kinds old mid new words worst result is shown status sends =
+    let by_text = subst (λ (l : List ℕ). SendsLast request.from count l worst mid new result) (shown ∙ ap (last_line folder request) is.kinds_are) sends in
+    let by_status = subst (λ (w : ℕ). SendsLast request.from count (last_line folder request (kinds_of is.reported)) w mid new result)
+    (status ∙ ap (last_status folder) is.kinds_are) by_text in
+    sent_last IsRight folder request bytes count kinds old mid new result is
+    (subst (λ (n : ℕ). SendsLast request.from n (last_line folder request (kinds_of is.reported)) (last_status folder (kinds_of is.reported)) mid new result)
     is.count_is by_status)
 
 -- an error that is passed on

@@ -11,7 +11,7 @@ use Rattle.grid.specs.Lawful.{IsOpen}
 use Rattle.grid.specs.Squares.{Squares}
 use Rattle.grid.specs.inside.Filling.{IsFilling, IsLook, work}
 use Rattle.grid.specs.inside.Filling.IsLook.{passes, takes}
-use Rattle.grid.proofs.Filling.{IsLooking, all_seen, fill_closed, first_in_room, first_inside, looked, unseen}
+use Rattle.grid.proofs.lemmas.Filling.{IsLooking, all_seen, fill_closed, first_in_room, first_inside, looked, unseen}
 use Rattle.grid.proofs.lemmas.Steps.{next_bound}
 use Rattle.sokopar.specs.Explaining.{IsExit}
 use Rattle.sokopar.specs.inside.Explaining.{HasTurned}

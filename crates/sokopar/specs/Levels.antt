@@ -1,12 +1,13 @@
 -- Reports of `best` and `prove` with a line for each level of a collection.
-use Rattle.std.specs.Prelude.{◌≡◌, ℕ, suc, ◌<◌, ◌≤◌, Bool, true, false, cond, List, [], ◌∷◌, ◌++◌, length, map}
-use Rattle.std.specs.Prelude.{Option, Some, None, Result, Ok, Err}
+use Rattle.std.specs.Prelude.{◌≡◌, ℕ, suc, ◌<◌, ◌≤◌, if◌then◌else◌, Bool, true, false, cond, List, [], ◌∷◌, ◌++◌, length, map}
+use Rattle.std.specs.Prelude.{Option, Some, None, is_some, unwrap_or, Result, Ok, Err, codes}
 use Rattle.std.specs.List.{AllZip}
 use Rattle.grid.specs.Board.{Board}
 use Rattle.grid.specs.declared.fault.LevelFault.{LevelFault}
 use Rattle.xsb.specs.Collection.{Found, IsCollection}
-use Rattle.judging.specs.Kinds.{kind_of, totals_words, worst_status}
+use Rattle.judging.specs.Kinds.{all_missing, kind_of, totals_words, worst_status}
 use Rattle.judging.specs.Table.{head_of, level_line}
+use Rattle.judging.specs.Words.{line}
 use Rattle.judging.specs.declared.judgement.Judgement.{Judgement}
 use Rattle.judging.specs.declared.judgement.Judgement.TheVariants as is
 use Rattle.judging.specs.declared.judgement.Settings.{Settings}
@@ -91,9 +92,21 @@ lines_of reported = map (λ one. one.text) reported
 abbrev pub kinds_of : List Reported → List Kind
 kinds_of reported = map (λ one. one.kind) reported
 
--- the last line of a report on some levels: their totals, except in a table
-abbrev pub last_line : Bool → LevelsRequest → List Kind → List ℕ
-last_line given request kinds = cond request.table [] (totals_words given request.settings.cap kinds)
+-- a folder of solutions, named by its path, has none of any of some levels
+abbrev pub has_none : Option (List ℕ) → List Kind → Bool
+has_none None kinds = false
+has_none (Some folder) kinds = all_missing kinds
+
+-- the last line of a report on some levels, with the path of a folder if their solutions are given: that it has none of
+-- them; else their totals, except in a table
+abbrev pub last_line : Option (List ℕ) → LevelsRequest → List Kind → List ℕ
+last_line folder request kinds =
+    if has_none folder kinds then line (codes "no solution in " ++ unwrap_or folder []) else
+    if request.table then [] else totals_words (is_some folder) request.settings.cap kinds
+
+-- its exit status
+abbrev pub last_status : Option (List ℕ) → List Kind → ℕ
+last_status folder kinds = cond (has_none folder kinds) 1 (worst_status kinds)
 
 -- the last line and the exit status, by the number of levels of the collection: that there is no level of the first
 -- number of the range, if there are fewer; else this line and this status
@@ -103,12 +116,12 @@ pub data EndsWith (from count : ℕ) (last : List ℕ) (worst : ℕ) : List ℕ 
 
 -- the lines and the status are the report of the levels of these bytes with numbers in the range of a request: a head
 -- line, the line of each level, and the last line; a line may be empty, and then nothing is written of it
-abbrev pub IsReport : (ℕ → Listed → Reported → Type 0) → Bool → LevelsRequest → List ℕ → List (List ℕ) → ℕ → Type 0
-IsReport IsRight given request bytes lines status =
+abbrev pub IsReport : (ℕ → Listed → Reported → Type 0) → Option (List ℕ) → LevelsRequest → List ℕ → List (List ℕ) → ℕ → Type 0
+IsReport IsRight folder request bytes lines status =
     (listing : List Listed) × IsLevelListing bytes listing × (reported : List Reported) ×
     AreReported IsRight request.from request.to listing reported × (end : List ℕ) ×
-    EndsWith request.from (length listing) (last_line given request (kinds_of reported))
-    (worst_status (kinds_of reported)) end status ×
+    EndsWith request.from (length listing) (last_line folder request (kinds_of reported))
+    (last_status folder (kinds_of reported)) end status ×
     (lines ≡ (head_of request.table ∷ lines_of reported) ++ end ∷ [])
 
 -- the levels are the first ones of the collection of these bytes

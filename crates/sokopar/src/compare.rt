@@ -53,7 +53,13 @@ fn beside_open_moves(
     requires open { IsClaim settings level.now given Open }
     ensures { IfOk result (λ known. IsBeside settings level.now (Some given) known) }
 {
-    let moves = improved(alloc, level, moves, Aim::FewerMoves, settings.limit as usize);
+    let moves = improved(
+        alloc,
+        level,
+        moves,
+        Aim::FewerMoves,
+        settings.limit as usize,
+    );
     let verdict = replay(alloc, level, &moves)?;
     let Verdict::Solved { pushes, .. } = verdict else {
         return Ok(given_known(Some(given), given.pushes, MovesClaim::Open));
@@ -113,7 +119,13 @@ fn beside_open_pushes(
     ensures { IfOk result (λ known. IsBeside settings level.now (Some given) known) }
 {
     let at_least = bound as usize;
-    let moves = improved(alloc, level, moves, Aim::FewerPushes, settings.limit as usize);
+    let moves = improved(
+        alloc,
+        level,
+        moves,
+        Aim::FewerPushes,
+        settings.limit as usize,
+    );
     let verdict = replay(alloc, level, &moves)?;
     let Verdict::Solved { pushes, .. } = verdict else {
         return Ok(given_known(Some(given), at_least, MovesClaim::Counted));
@@ -125,7 +137,15 @@ fn beside_open_pushes(
         return Ok(found_known(Some(given), moves, pushes, at_least, MovesClaim::Counted));
     }
     let found = settings.limit as usize;
-    with_fewest_pushes(alloc, level, Some(given), moves, pushes as u32, found, settings)
+    with_fewest_pushes(
+        alloc,
+        level,
+        Some(given),
+        moves,
+        pushes as u32,
+        found,
+        settings,
+    )
 }
 
 /// The judgement of a solution with these numbers of pushes and moves.
@@ -160,7 +180,15 @@ pub(crate) fn compare<R: Threads + Sync, P: Progress>(
     let mut tally = Tally::of(progress);
     match prover::search(rt, alloc, level, Some(most), limit, workers, &mut tally) {
         Ok(Outcome::Least { moves, pushes }) => {
-            let known = with_fewest_pushes(alloc, level, Some(given), moves, pushes, tally.found(), settings);
+            let known = with_fewest_pushes(
+                alloc,
+                level,
+                Some(given),
+                moves,
+                pushes,
+                tally.found(),
+                settings,
+            );
             judged(known, Some(given), pushes as usize)
         }
         Ok(Outcome::NoneWithin) => {

@@ -1,4 +1,4 @@
-ghost use Rattle.std.specs.Prelude.{◌≡◌, ◌⊎◌, ℕ, [], Result, Option, IfErr, IfOk, IfSome};
+ghost use Rattle.std.specs.Prelude.{◌≡◌, ◌⊎◌, ℕ, List, [], Result, Option, IfErr, IfOk, IfSome};
 
 use crate::fault::RunFault;
 use crate::source::Source;
@@ -11,6 +11,13 @@ pub trait Folder {
 
     // what opening the solution of a level gave: a file, or that there is none, or why it failed
     ghost opened: { Self → ℕ → Result (Option Self.File) RunFault → Type 0 };
+
+    // the path of the folder
+    ghost path_seen: { Self → List ℕ };
+
+    /// The path of the folder, as reports name it.
+    fn path(&self) -> &[u8]
+        ensures path { result.now ≡ path_seen self.now };
 
     /// Opens the solution of a level; `None` if there is no such file. Fails with [`RunFault::Read`] if it cannot be
     /// opened, or if out of memory.

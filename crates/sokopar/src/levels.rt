@@ -1,8 +1,9 @@
 //! Reports on the levels of a collection, which are written line by line.
-ghost use Rattle.std.specs.Prelude.{◌≡◌, ◌≤◌, ◌++◌, ◌∷◌, [], length, IfOk, IfErr, OnOk, MatchBool};
+ghost use Rattle.std.specs.Prelude.{◌≡◌, ◌≤◌, ◌++◌, ◌∷◌, [], length, IfOk, IfErr, OnOk, MatchBool, codes, option_map};
 ghost use Rattle.judging.specs.inside.Entries.{entry_listed};
 ghost use Rattle.sokopar.specs.Entries.{listed_of};
-ghost use Rattle.sokopar.specs.Levels.{BeginsReport, IsBetween, IsLine, IsReport, last_line};
+ghost use Rattle.sokopar.specs.Levels.{BeginsReport, IsBetween, IsLine, IsReport, last_line, last_status};
+ghost use Rattle.judging.specs.Words.{line};
 ghost use Rattle.sokopar.specs.inside.Sending.{SendsByLine, SendsJudged, SendsLast, SendsLevel, SendsLevels, SendsLine};
 ghost use Rattle.sokopar.specs.inside.Sending.{StopsByLine};
 
@@ -13,7 +14,9 @@ use crate::show::no_level;
 use crate::sink::Sink;
 use crate::watch::Watch;
 use crate::writes::write_whole;
-use judging::{Judgement, Kind, Text, head_of, put_level_line, put_totals, worst_status};
+use judging::{
+    Judgement, Kind, Text, all_missing, head_of, put_level_line, put_totals, worst_status,
+};
 use std::alloc::{AllocError, Global};
 use std::thread::Threads;
 use xsb::{BoardEntry, Collection, Entry, MAX_FILE};
@@ -124,21 +127,41 @@ fn send_levels<R: Threads + Sync, J: Judge, P: Watch, K: Sink>(
     Ok(number)
 }
 
-/// The last line of a report on levels of these kinds.
-fn last_line(
-    alloc: Global,
-    given: bool,
+/// Appends that a folder has no solution of any level.
+fn put_none_in(text: &mut Text, folder: &[u8]) -> Result<(), AllocError>
+    ensures { OnOk result (text.new ≡ text.old ++ line (codes "no solution in " ++ folder.now)) }
+{
+    text.put(b"no solution in ")?;
+    text.put(folder)?;
+    text.put(b"\n")
+}
+
+/// Appends the last line of a report on levels of these kinds.
+fn put_last(
+    text: &mut Text,
+    folder: Option<&[u8]>,
     request: LevelsRequest,
     kinds: &[Kind],
-) -> Result<Text, AllocError>
-    ensures { IfOk result (λ text. text ≡ last_line given request kinds.now) }
+) -> Result<(), AllocError>
+    ensures { OnOk result (text.new ≡ text.old ++ last_line (option_map (λ path. path.now) folder.entry) request kinds.now) }
 {
-    let mut text = Text::new(alloc);
-    if !request.table {
-        let cap = request.settings.cap;
-        put_totals(&mut text, given, cap, kinds)?;
+    let cap = request.settings.cap;
+    match folder {
+        Some(path) if all_missing(kinds) => put_none_in(text, path),
+        _ if request.table => Ok(()),
+        Some(_) => put_totals(text, true, cap, kinds),
+        None => put_totals(text, false, cap, kinds),
     }
-    Ok(text)
+}
+
+/// The exit status of a report on levels of these kinds.
+fn last_status(folder: Option<&[u8]>, kinds: &[Kind]) -> u8
+    ensures { result ≡ last_status (option_map (λ path. path.now) folder.entry) kinds.now }
+{
+    match folder {
+        Some(_) if all_missing(kinds) => 1,
+        _ => worst_status(kinds),
+    }
 }
 
 /// Writes the last line: that the collection, with this number of levels, has none with the first number of the range;
@@ -162,12 +185,12 @@ fn send_last<K: Sink>(
     Ok(worst)
 }
 
-/// Writes the report on the levels of a range: the line of each as soon as it is known. `given` says whether solutions are
-/// given. Returns the exit status.
+/// Writes the report on the levels of a range: the line of each as soon as it is known. `folder` is the path of the folder
+/// of their solutions, if these are given. Returns the exit status.
 pub(crate) fn send_report<R: Threads + Sync, J: Judge, P: Watch, K: Sink>(
     rt: &R,
     judge: &J,
-    given: bool,
+    folder: Option<&[u8]>,
     alloc: Global,
     bytes: &[u8],
     request: LevelsRequest,
@@ -176,13 +199,14 @@ pub(crate) fn send_report<R: Threads + Sync, J: Judge, P: Watch, K: Sink>(
 ) -> Result<u8, RunFault>
     requires { length bytes.now ≤ MAX_FILE }
     ensures { SendsByLine
-        (IsReport (IsLine (J.is_right judge.now) request) given request bytes.now)
+        (IsReport (IsLine (J.is_right judge.now) request) (option_map (λ path. path.now) folder.entry) request bytes.now)
         (BeginsReport (IsLine (J.is_right judge.now) request) request bytes.now)
         (K.seen sink.old) (K.seen sink.new) result }
 {
     let mut kinds = Vec::new(alloc);
     let levels = send_levels(rt, judge, alloc, bytes, request, &mut kinds, watch, sink)?;
-    let last = last_line(alloc, given, request, kinds.as_slice())?;
-    let worst = worst_status(kinds.as_slice());
+    let mut last = Text::new(alloc);
+    put_last(&mut last, folder, request, kinds.as_slice())?;
+    let worst = last_status(folder, kinds.as_slice());
     send_last(alloc, request.from, levels, last.as_slice(), worst, sink)
 }

@@ -1,7 +1,7 @@
 //! The engines that look for a solution with the fewest pushes. Their reports are proved to be right, but not to be the
 //! only right ones: several solutions may have the fewest pushes, and a search may end at its limit with another bound.
 //! So [`one_report`](crate::one_report) does not cover them.
-ghost use Rattle.std.specs.Prelude.{◌≤◌, None, true, false};
+ghost use Rattle.std.specs.Prelude.{◌≤◌, None, Some, true, false};
 ghost use Rattle.sokopar.specs.Levels.{BeginsReport, IsBestLine, IsProveLine, IsReport};
 ghost use Rattle.sokopar.specs.OneLevel.{IsLevelReport};
 ghost use Rattle.sokopar.specs.Report.{Written, WrittenOfTwo};
@@ -90,7 +90,7 @@ pub fn run_best_collection<R: Threads + Sync, S: Source, P: Watch, K: Sink>(
     watch: &mut P,
     sink: &mut K,
 ) -> Result<u8, RunFault>
-    ensures { RunsByLine (IsReport (IsBestLine request) false request) (BeginsReport (IsBestLine request) request)
+    ensures { RunsByLine (IsReport (IsBestLine request) None request) (BeginsReport (IsBestLine request) request)
         (S.seen source.old) (S.seen source.new) (K.seen sink.old) (K.seen sink.new) result }
 {
     let bytes = read_whole(alloc, source)?;
@@ -98,7 +98,7 @@ pub fn run_best_collection<R: Threads + Sync, S: Source, P: Watch, K: Sink>(
     send_report(
         rt,
         &judge,
-        false,
+        None,
         alloc,
         bytes.as_slice(),
         request,
@@ -145,7 +145,8 @@ pub fn run_prove<R: Threads + Sync, S: Source, T: Source, P: Watch, K: Sink>(
 /// A solution that cannot be read, or has more than [`MAX_FILE`](xsb::MAX_FILE) bytes, and one whose search runs out of
 /// memory have a line, too. Returns the exit status: 0 if all solutions are optimal, else 5 if a search ran out of
 /// memory, else 3 if a solution cannot be read, else 4 if a search ended at its limit, else 1. If no level has a number
-/// of at least `from`, it writes that there is no such level, and returns 1.
+/// of at least `from`, it writes that there is no such level, and returns 1. If the folder has no solution of any level
+/// of the range, it writes so in place of the totals, and returns 1.
 ///
 /// A table has a head line, a line with the columns of each of these levels, and no totals.
 ///
@@ -160,7 +161,7 @@ pub fn run_prove_collection<R: Threads + Sync, S: Source, D: Folder, P: Watch, K
     watch: &mut P,
     sink: &mut K,
 ) -> Result<u8, RunFault>
-    ensures { RunsByLine (IsReport (IsProveLine (D.opened folder.now) D.File.seen request) true request)
+    ensures { RunsByLine (IsReport (IsProveLine (D.opened folder.now) D.File.seen request) (Some (D.path_seen folder.now)) request)
         (BeginsReport (IsProveLine (D.opened folder.now) D.File.seen request) request)
         (S.seen source.old) (S.seen source.new) (K.seen sink.old) (K.seen sink.new) result }
 {
@@ -169,7 +170,7 @@ pub fn run_prove_collection<R: Threads + Sync, S: Source, D: Folder, P: Watch, K
     send_report(
         rt,
         &judge,
-        true,
+        Some(folder.path()),
         alloc,
         bytes.as_slice(),
         request,

@@ -1,5 +1,5 @@
 //! The reports on the levels of a collection: a table, and the solutions of a folder.
-ghost use Rattle.std.specs.Prelude.{⊤};
+ghost use Rattle.std.specs.Prelude.{⊤, codes};
 
 use crate::{Paper, Pieces};
 use sokopar::{
@@ -63,6 +63,12 @@ impl<'a> Folder for Shelf<'a> {
     type File = Reader<Pieces<'a>>;
 
     ghost opened = { λ _ _ _. ⊤ };
+
+    ghost path_seen = { λ _. codes "shelf" };
+
+    fn path(&self) -> &[u8] {
+        b"shelf"
+    }
 
     fn open(&self, number: u32) -> Result<Option<Reader<Pieces<'a>>>, RunFault> {
         for (level, text) in self.solutions {

@@ -2,7 +2,7 @@ use Rattle.std.proofs.Common.{◌≡◌, ℕ, ◌∷◌, Bool, List, [], true, s
 use Rattle.std.proofs.lemmas.List.{nil_from_length}
 use Rattle.grid.specs.Board.{Board}
 use Rattle.grid.specs.inside.Filling.{IsFilling, board_of}
-use Rattle.grid.proofs.Filling.{fill_closed, fill_done, fill_start, last_first}
+use Rattle.grid.proofs.lemmas.Filling.{fill_closed, fill_done, fill_start, last_first}
 use Rattle.grid.proofs.lemmas.Steps.{inside_grid}
 use Rattle.grid.proofs.room.fill.Goals as goal
 

@@ -8,7 +8,7 @@ use Rattle.grid.specs.Masks.{square_to}
 use Rattle.grid.specs.inside.AroundView.{around_of}
 use Rattle.grid.specs.inside.Filling.{board_of}
 use Rattle.grid.proofs.Bits.{square_to-around_of}
-use Rattle.grid.proofs.Filling.{IsLooking, all_seen, first_inside, looked, open_at}
+use Rattle.grid.proofs.lemmas.Filling.{IsLooking, all_seen, first_inside, looked, open_at}
 use Rattle.grid.proofs.lemmas.Directions.{dir_at}
 use Rattle.grid.proofs.lemmas.Steps.{next_bound}
 use Rattle.grid.proofs.room.look_round.Goals as goal

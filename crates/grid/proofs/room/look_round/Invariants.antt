@@ -1,6 +1,6 @@
 use Rattle.std.proofs.Common.{◌≤◌}
 use Rattle.grid.specs.inside.Filling.{board_of, work}
-use Rattle.grid.proofs.Filling.{IsLooking}
+use Rattle.grid.proofs.lemmas.Filling.{IsLooking}
 use Rattle.grid.proofs.room.look_round.Given as goal
 
 abbrev pub invariant-loop-dir : goal.invariant-loop-dir

@@ -1,7 +1,7 @@
 -- At first the player's square alone is marked and pending.
 use Rattle.std.proofs.Common.{ℕ, List, [], ◌∷◌, true, set, sym, subst, arith}
 use Rattle.grid.specs.inside.Filling.{IsFilling}
-use Rattle.grid.proofs.Filling.{fill_start}
+use Rattle.grid.proofs.lemmas.Filling.{fill_start}
 use Rattle.grid.proofs.lemmas.Steps.{inside_grid}
 use Rattle.sokopar.specs.inside.Explaining.{board_in}
 use Rattle.sokopar.proofs.exits.exit_by.Goals as goal

@@ -2,7 +2,7 @@
 use Rattle.std.proofs.Common.{[], ◌∷◌, ◌+◌, drop, get_or, refl, arith}
 use Rattle.grid.specs.declared.dir.Dir.{Dir}
 use Rattle.grid.specs.declared.dir.Dir.TheVariants.{D, L, R, U}
-use Rattle.grid.proofs.Filling.{first_inside}
+use Rattle.grid.proofs.lemmas.Filling.{first_inside}
 use Rattle.grid.proofs.lemmas.Directions.{dir_at}
 use Rattle.sokopar.specs.inside.Explaining.{board_in}
 use Rattle.sokopar.proofs.Exiting.{beside_inside, turned, turning_first, turning_more}
