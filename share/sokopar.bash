@@ -5,9 +5,9 @@ _sokopar() {
     case ${COMP_WORDS[1]} in
         check) options="--help" ;;
         explain) options="--help" ;;
-        show) options="--help" ;;
+        show) options="--from --to --help" ;;
         dead) options="--help" ;;
-        replay) options="--help" ;;
+        replay) options="--solutions --from --to --table --help" ;;
         solve) options="--workers --locks --limit --max-pushes --lurd --help" ;;
         best) options="--from --to --workers --limit --max-pushes --moves --table --lurd --progress --help" ;;
         prove) options="--solutions --from --to --workers --limit --moves --table --lurd --progress --help" ;;
@@ -19,7 +19,7 @@ _sokopar() {
         compopt +o default
     fi
     case ${COMP_WORDS[COMP_CWORD - 1]} in
-        --workers | --locks | --limit | --max-pushes | --from | --to) compopt +o default; return ;; # a number
+        --from | --to | --workers | --locks | --limit | --max-pushes) compopt +o default; return ;; # a number
         --solutions) compopt -o filenames; mapfile -t COMPREPLY < <(compgen -d -- "$word"); return ;;
     esac
     if [ "$COMP_CWORD" = 1 ] || [[ $word == -* || ${COMP_WORDS[1]} == help ]]; then

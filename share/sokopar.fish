@@ -8,14 +8,20 @@ complete -c sokopar -n '__fish_seen_subcommand_from check' -s h -l help -d 'Prin
 complete -c sokopar -n __fish_use_subcommand -a explain -d 'Says where and why levels are faulty'
 complete -c sokopar -n '__fish_seen_subcommand_from explain' -F
 complete -c sokopar -n '__fish_seen_subcommand_from explain' -s h -l help -d 'Print help'
-complete -c sokopar -n __fish_use_subcommand -a show -d 'Shows a level in plain rows'
+complete -c sokopar -n __fish_use_subcommand -a show -d 'Shows levels in plain rows'
 complete -c sokopar -n '__fish_seen_subcommand_from show' -F
+complete -c sokopar -n '__fish_seen_subcommand_from show' -l from -x -d 'Without N: the first level'
+complete -c sokopar -n '__fish_seen_subcommand_from show' -l to -x -d 'Without N: the last level'
 complete -c sokopar -n '__fish_seen_subcommand_from show' -s h -l help -d 'Print help'
 complete -c sokopar -n __fish_use_subcommand -a dead -d 'Shows walls, goals and dead squares of a level'
 complete -c sokopar -n '__fish_seen_subcommand_from dead' -F
 complete -c sokopar -n '__fish_seen_subcommand_from dead' -s h -l help -d 'Print help'
 complete -c sokopar -n __fish_use_subcommand -a replay -d 'Replays a solution on a level'
 complete -c sokopar -n '__fish_seen_subcommand_from replay' -F
+complete -c sokopar -n '__fish_seen_subcommand_from replay' -l solutions -x -a '(__fish_complete_directories)' -d 'Without N and SOLUTION: all N.lurd of a folder'
+complete -c sokopar -n '__fish_seen_subcommand_from replay' -l from -x -d 'Without N: the first level'
+complete -c sokopar -n '__fish_seen_subcommand_from replay' -l to -x -d 'Without N: the last level'
+complete -c sokopar -n '__fish_seen_subcommand_from replay' -l table -d 'Without N: a table, with tabs between its columns'
 complete -c sokopar -n '__fish_seen_subcommand_from replay' -s h -l help -d 'Print help'
 complete -c sokopar -n __fish_use_subcommand -a solve -d 'Finds the first solution with the fewest pushes, and counts positions'
 complete -c sokopar -n '__fish_seen_subcommand_from solve' -F

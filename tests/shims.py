@@ -8,7 +8,7 @@ import tempfile
 
 TESTS = os.path.dirname(os.path.abspath(__file__))
 # seconds after which a run counts as hanging
-SECONDS = 600
+SECONDS = 1_200
 # what the program gives if it is out of memory, or cannot read
 OUT_OF_MEMORY = (5, b"", b"out of memory\n")
 CANNOT_READ = (3, b"", b"cannot read\n")

@@ -2,12 +2,14 @@
 writes, and its status.
 
 It shares nothing with the program. It is slow and plain, and made for small inputs."""
+import contextlib
 import functools
 import re
 
 MOST_ROWS = MOST_COLUMNS = 255
 MOST_BOXES = 64
 MOST_PLACES = 20
+MOST_MATCHED = 65_536
 MOST_MOVES = 1_000_000
 MOST_BYTES = 16_777_216
 MOST_NUMBER = 4_294_967_295
@@ -229,6 +231,17 @@ def lawful(data, number):
     return board, None
 
 
+def byte_words(text):
+    """The character that begins some bytes of a line, in words; or the byte."""
+    for length in (2, 3, 4):
+        with contextlib.suppress(UnicodeDecodeError):
+            letter = text[:length].decode()
+            if len(letter) == 1 and ord(letter) >= 0xA0:
+                return "a no-break space" if letter == "\xa0" else f"'{letter}' (U+{ord(letter):04X})"
+    byte = text[0]
+    return "a tab" if byte == 9 else f"'{chr(byte)}'" if 32 < byte < 127 else f"value {byte}"
+
+
 def break_of(line):
     """The first byte of a line, from 1, at which neither an item nor a bar begins, and why."""
     at = 0
@@ -240,25 +253,41 @@ def break_of(line):
         elif item and len(count) <= 4 and (not count or int(count)):
             at = item.end()
         elif not count:
-            byte = line[at]
-            name = "a tab" if byte == 9 else chr(byte) if 32 < byte < 127 else f"value {byte}"
-            return f"byte {at + 1}, {name}, is no cell"
+            return f"column {at + 1}, {byte_words(line[at:])}, is no cell"
         elif len(count) > 4:
-            return f"byte {at + 1} begins a count of too many digits"
+            return f"column {at + 1} begins a count of too many digits"
         else:
-            return f"byte {at + 1} begins a count {'that no cell follows' if int(count) else 'of 0'}"
+            return f"column {at + 1} begins a count {'that no cell follows' if int(count) else 'of 0'}"
     return None
 
 
 def broken_rows(data):
-    """The lines with a wall that are no rows and no words: the number of each, and what is written of it."""
+    """The lines that are no rows and no words, and have a wall, or cells alone between two rows: the number of each, and
+    what is written of it."""
     lines, found = lines_of(data), []
     for number, text in enumerate(lines, 1):
-        if b"#" in text and rows_of(text) is None and not re.match(rb"[;A-Za-z]", text):
-            parts = 1 < number < len(lines) and rows_of(lines[number - 2]) and rows_of(lines[number])
-            found.append((number, line(f"line {number} has a wall and is no row: {break_of(text)}" +
-                                       ("; no other line is between two boards" if parts else ""))))
+        if rows_of(text) is not None or re.match(rb"[;A-Za-z]", text):
+            continue
+        parts = 1 < number < len(lines) and rows_of(lines[number - 2]) and rows_of(lines[number])
+        reason = break_of(text)
+        if b"#" in text:
+            said = f"has a wall and is no row: {reason}"
+        elif parts and reason is None and re.search(rb"[@+$*.]", text) and len(set(text)) > 1:
+            said = "has cells and no wall"
+        else:
+            continue
+        advice = "; it cuts a level in two: remove it, or put an empty line before the next level" if parts else ""
+        found.append((number, line(f"line {number} {said}{advice}")))
     return found
+
+
+def foreign_row(data):
+    """What is written of the first line that looks like a board of other characters."""
+    for number, text in enumerate(lines_of(data), 1):
+        foreign = sum(byte == 0 or byte > 127 or chr(byte) in "XxHhWw%=" for byte in text)
+        if foreign >= 3 and 2 * foreign > len(text) - text.count(b" "):
+            return line(f"line {number} looks like a board of other characters")
+    return b""
 
 
 def frozen(board, boxes):
@@ -275,20 +304,104 @@ def frozen(board, boxes):
     return not held <= board.goals
 
 
-def doomed(board):
-    """Why a lawful level is unsolvable from the start: how, and the squares of boxes; None where nothing is found."""
-    boxes = sorted(board.boxes)
-    lost = [square for square in boxes if square not in board.live()]
-    if lost:
-        return "dead", lost
-    if not frozen(board, boxes):
-        return None
+def frozen_part(board, boxes):
+    """Some frozen boxes, without each that the others are frozen without; of many boxes, all."""
     few = list(boxes)
     for square in boxes if len(boxes) <= MOST_BOXES else []:
         others = [other for other in few if other != square]
         if frozen(board, others):
             few = others
-    return "frozen", few
+    return few
+
+
+def is_stuck(board):
+    """Whether the player has no step at the start."""
+    for step in DIRS.values():
+        ahead = moved(board.player, step)
+        beyond = moved(ahead, step)
+        if not board.is_wall(ahead) and (ahead not in board.boxes or
+                                         not board.is_wall(beyond) and beyond not in board.boxes):
+            return False
+    return True
+
+
+class Alone:
+    """Where lone boxes of a board can be pushed, the player walking round them."""
+
+    def __init__(self, board):
+        self.board, self.pushes = board, {}
+
+    def area(self, box, player):
+        """The squares that the player walks to round a box."""
+        seen, waiting = {player}, [player]
+        while waiting:
+            square = waiting.pop()
+            for step in DIRS.values():
+                beside = moved(square, step)
+                if beside not in seen and beside != box and not self.board.is_wall(beside):
+                    seen.add(beside)
+                    waiting.append(beside)
+        return frozenset(seen)
+
+    def after(self, state):
+        """The states after one push."""
+        if state not in self.pushes:
+            box, area = state
+            self.pushes[state] = [(moved(box, step), self.area(moved(box, step), box)) for step in DIRS.values()
+                                  if moved(box, (-step[0], -step[1])) in area and not self.board.is_wall(moved(box, step))]
+        return self.pushes[state]
+
+    def goals(self, box):
+        """The goals that a box gets to from the start."""
+        first = box, self.area(box, self.board.player)
+        seen, waiting = {first}, [first]
+        while waiting:
+            for state in self.after(waiting.pop()):
+                if state not in seen:
+                    seen.add(state)
+                    waiting.append(state)
+        return {square for square, _ in seen} & self.board.goals
+
+
+def is_unmatched(board):
+    """Whether no goals of their own can be given to all boxes such that each gets to its goal; of many boxes
+    and in large levels, no."""
+    if len(board.boxes) > MOST_BOXES or board.height * board.width * len(board.boxes) > MOST_MATCHED:
+        return False
+    alone, owner = Alone(board), {}
+    near = {box: alone.goals(box) for box in board.boxes}
+
+    def is_given(box, tried):
+        for goal in near[box] - tried:
+            tried.add(goal)
+            if goal not in owner or is_given(owner[goal], tried):
+                owner[goal] = box
+                return True
+        return False
+
+    return not all(is_given(box, set()) for box in board.boxes)
+
+
+def remark(board):
+    """What is found at the start of a lawful level: words, and the squares to which they apply; None if nothing is."""
+    boxes, live = sorted(board.boxes), board.live()
+    plights = {
+        "unsolvable: the player never gets to the box": board.boxes - board.room - board.goals,
+        "unsolvable: no box gets to the goal": board.goals - board.room - board.boxes,
+        "unsolvable: a box is on a dead square": board.boxes - live,
+    }
+    if board.boxes <= board.goals:
+        return "solved already", None
+    for words, squares in plights.items():
+        if squares:
+            return words, squares
+    if frozen(board, boxes):
+        return "frozen", frozen_part(board, boxes)
+    if is_stuck(board):
+        return "unsolvable: the player cannot move", None
+    if is_unmatched(board):
+        return "unsolvable: some boxes together get to fewer goals than they are", None
+    return None
 
 
 def nearest_exit(board):
@@ -336,14 +449,14 @@ def explained(board, places, is_wanted):
 
     said, shown = [], is_wanted
     if board.fault is None:
-        found = doomed(board)
-        if found is None:
-            said = ["nothing found against it, which does not say that it can be solved"] if is_wanted else []
-        elif found[0] == "dead":
-            said = sentences("unsolvable: a box is on a dead square", found[1])
-        else:
+        words, squares = remark(board) or ("", None)
+        if not words:
+            said = ["nothing found; sokopar best FILE N decides whether it can be solved"] if is_wanted else []
+        elif words == "frozen":
             said = ["unsolvable: some of these boxes are frozen, not all of them on goals",
-                    *sentences("a box is", found[1])]
+                    *sentences("a box is", squares)]
+        else:
+            said = sentences(words, squares) if squares else [words]
     elif board.fault[0] in "12":
         said, shown = [excess(board, places)], False
     elif board.fault[0] in "56":
@@ -351,7 +464,9 @@ def explained(board, places, is_wanted):
     elif board.fault[0] == "7":
         said, shown = [[f"the player gets out at {at(square)}" for square in nearest_exit(board)]], True
     else:
-        said = sentences("a player is", board.squares(b"@+"))
+        players = board.squares(b"@+")
+        said = sentences("a player is", players)
+        said += ["if these are two levels, put an empty line between them"] if len(players) > 1 else []
     return said, picture(board) if shown else b""
 
 
@@ -363,7 +478,7 @@ def explain(data, wanted):
     if wanted is not None and wanted > len(boards):
         return [(1, line(f"no level {wanted}"))]
     broken = broken_rows(data)
-    texts = [b""]
+    texts, lost = [b""], 0
     for number, before, after in zip(range(1, len(boards) + 2), firsts, firsts[1:]):
         if wanted in (None, number, number - 1):
             for row, text in broken:
@@ -378,19 +493,48 @@ def explain(data, wanted):
         judged = f"fault {board.fault}" if board.fault else f"ok {board.height}x{board.width} {len(board.boxes)} boxes"
         head = line(f"{number} line {board.first} {judged}", board.name)
         is_sound = board.fault is None and said[0].startswith("nothing")
-        sound = sound and is_sound
+        sound, lost = sound and is_sound, lost + (board.fault is None and said[0].startswith("unsolvable"))
         ways = said[0] if said and isinstance(said[0], list) else None
         bodies = [[way] for way in ways] if ways else [said]
         texts = [old + head + b"".join(line(f"  {one}") for one in body) + rows
                  for old in texts for body in bodies]
+    if not boards and foreign_row(data):
+        texts, sound = [old + foreign_row(data) for old in texts], False
     good = sum(board.fault is None for board in boards)
-    totals = line(f"{len(boards)} levels, {good} good") if wanted is None else b""
+    more = f", {lost} of them unsolvable" if lost else ""
+    totals = line(f"{len(boards)} levels, {good} good{more}") if wanted is None else b""
     return [(0 if sound else 1, text + totals) for text in texts]
 
 
 def show(data, number):
     board, refused = lawful(data, number)
     return refused or (0, b"".join(row.rstrip(b" ") + b"\n" for row in board.rows))
+
+
+def shown_range(data, first, last):
+    """The status and the report of `show` of the levels from the first to the last number."""
+    boards, text, status = boards_of(data), b"", 0
+    if len(boards) < first:
+        return 1, line(f"no level {first}")
+    for number, board in enumerate(boards, 1):
+        if not first <= number <= last:
+            continue
+        if board.fault:
+            text, status = text + line(f"; {number} line {board.first} fault {board.fault}", board.name), 1
+            continue
+        rows = [row.rstrip(b" ") for row in board.rows]
+        is_plain = all(b"#" in row for row in rows)
+        rows = b"".join(row + b"\n" for row in rows) if is_plain else b"".join(row + b" |" for row in rows) + b"\n"
+        text += line(";", board.name + (b" " if b"\r" in board.name else b"")) + rows + b"\n"
+    return status, text
+
+
+def read_again(data, first, last, text):
+    """Whether a report of `shown_range` is a collection of the lawful levels of the range, with their names."""
+    kept = [board for number, board in enumerate(boards_of(data), 1)
+            if first <= number <= last and not board.fault]
+    again = boards_of(text)
+    return [(board.name, board.rows) for board in again] == [(board.name, board.rows) for board in kept]
 
 
 def dead(data, number):

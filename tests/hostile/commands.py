@@ -21,6 +21,7 @@ COMMANDS = {
     "check": (["check", "FILE"], lambda file, _: formats.check(file)),
     "explain": (["explain", "FILE", "1"], lambda file, _: explained(file)),
     "show": (["show", "FILE", "1"], lambda file, _: formats.show(file, 1)),
+    "range": (["show", "FILE"], lambda file, _: formats.shown_range(file, 1, PLENTY)),
     "dead": (["dead", "FILE", "1"], lambda file, _: formats.dead(file, 1)),
     "replay": (["replay", "FILE", "1", "MOVES"], lambda file, moves: formats.replay(file, 1, moves)),
     "solve": (["solve", "FILE", "1", "--workers", "2"], lambda file, _: solved(file)),

@@ -196,7 +196,7 @@ def longest(bench):
             got = bench.run(bench.words(command, path))
             yield f"{command} of {len(data)} bytes", differs(got, others.get(command, said))
         os.remove(path)
-    loose = b"line 1 has a wall and is no row: byte 16777213 begins a count that no cell follows\n0 levels, 0 good\n"
+    loose = b"line 1 has a wall and is no row: column 16777213 begins a count that no cell follows\n0 levels, 0 good\n"
     got = bench.run([bench.program, "explain", bench.file(tall + b"9999")])
     yield "explain of a row of the greatest length that breaks at its end", differs(got, (1, loose, b""))
     named = b"; " + b"x" * 65_536 + TWO[25:]

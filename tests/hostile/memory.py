@@ -18,8 +18,8 @@ SOLVED = [
 ]
 
 # searches of `best` by several workers: how many, the number of a room of tests/prove/tables.xsb, the fewest pushes by
-# `solve`, and a limit that is passed, except by the last search, which makes tables of regions and ends
-SEARCHED = [(2, 7, 16, 200), (4, 7, 16, 200), (4, 5, 13, 700)]
+# `solve`, a limit, and whether it is passed; the last search makes tables of regions and ends
+SEARCHED = [(2, 7, 16, 200, True), (4, 7, 16, 200, True), (4, 5, 13, 700, False)]
 # a room of bench/dense.xsb that makes tables of regions, and KB of address space: the first, the last and the steps in
 # which one worker searches, and how often it reports before the end; numbers of workers, and what each has more
 SPACES = ("bench/dense.xsb", 30), 2 << 10, 64 << 10, 1 << 10, 3
@@ -61,21 +61,20 @@ def memory(bench, worked, workers, locks):
         yield f"{words[1:]}, {name}", fault
 
 
-def searching(bench, workers, number, pushes, limit):
+def searching(bench, workers, number, pushes, limit, is_passed):
     """`best` by several workers, up to its end or its limit; each request for memory fails in turn, alone or with all
-    later ones: the report of one worker, or out of memory."""
+    later ones: the report of one worker, or out of memory, or past the limit the report without a solution."""
     with open(os.path.join(ROOT, "tests", "prove", "tables.xsb"), "rb") as file:
         level = b"\n".join(formats.boards_of(file.read())[number - 1].rows) + b"\n"
     words = [bench.program, "best", bench.file(level), "1", "--limit", str(limit)]
     status, out, err = report = bench.run(words)
-    bound = re.fullmatch(rb"limit %d reached, at least (\d+) pushes\n" % limit, out)
-    found = re.fullmatch(rb"optimal (\d+) pushes, \d+ moves\n[LRUDlrud]+\n", out)
-    is_open = status == 4 and bound and int(bound[1]) <= pushes
-    is_right = err == b"" and (is_open or status == 0 and found and int(found[1]) == pushes)
-    yield f"{words[1:]}, one worker", None if is_right else f"gives {report}"
+    found = re.fullmatch(rb"optimal %d pushes, \d+ moves\n[LRUDlrud]+\n" % pushes, out)
+    yield f"{words[1:]}, one worker", None if (status, err) == (0, b"") and found else f"gives {report}"
+    # what stands in the report if memory fails while beams look for the solution after the search
+    without = (4, b"limit %d reached, at least %d pushes\n" % (limit, pushes), b"") if is_passed else report
     words += ["--workers", str(workers)]
     for name, fault in shims.refused(lambda env: bench.run(words, env=env), bench.refuse,
-                                     lambda got, _: unlike(got, report, level)):
+                                     lambda got, _: None if got == without else unlike(got, report, level)):
         yield f"{words[1:]}, {name}", fault
 
 
@@ -156,8 +155,9 @@ def limits_of_best(bench, limit):
     tables = memory_stated(r"Their tables take up to (\d+) MB")
     most = memory_at_limit() * limit // PLENTY + tables
     asked, got = asked_by(bench, ["best", bench.file(level), "1", "--limit", str(limit)])
-    reports = [(4, b"limit %d reached, at least %d pushes\n" % (limit, it), b"") for it in (pushes, pushes + 2)]
-    fault = f"{got}, not one of {reports}" if got not in reports else f"{asked} bytes" if most < asked else None
+    report = rb"(found \d+ pushes, \d+ moves, )?limit %d reached, at least (%d|%d) pushes" % (limit, pushes, pushes + 2)
+    is_right = (got[0], got[2]) == (4, b"") and re.fullmatch(report, got[1].split(b"\n")[0])
+    fault = f"{got}, not {report}" if not is_right else f"{asked} bytes" if most < asked else None
     yield f"limit {limit}, within {most} bytes", fault
 
 

@@ -16,9 +16,9 @@ import trials
 # a command, the least limit of positions (with --moves, of states) that decides it, how its report begins there, and
 # what the report says one below, beside the limit
 LEAST = [
-    ("best bench/dense.xsb 60", 507, "optimal 27 pushes,", "at least 27 pushes"),
+    ("best bench/dense.xsb 60", 501, "optimal 27 pushes,", "at least 25 pushes"),
     ("best bench/dense.xsb 17", 538, "optimal 29 pushes,", "at least 29 pushes"),
-    ("best bench/dense.xsb 25", 55_835, "optimal 48 pushes,", "at least 48 pushes"),
+    ("best bench/dense.xsb 25", 24_214, "optimal 48 pushes,", "at least 48 pushes"),
     ("best tests/prove/alcove.xsb 1", 34_732, "optimal 49 pushes,", "at least 49 pushes"),
     ("best bench/dense.xsb 44 --max-pushes 28", 6_346, "none within 28 pushes", "at least 28 pushes"),
     ("best bench/dense.xsb 41 --max-pushes 31", 11_687, "none within 31 pushes", "at least 31 pushes"),
@@ -37,6 +37,8 @@ FLOORS = {
     ("dense", 20_000): (30, 1004, 0),
 }
 PERCENT = 10
+# rooms and limits at which `best` finds a solution beside its bound
+FOUND = [("best bench/dense.xsb 2", 10_000), ("best bench/dense.xsb 26", 10_000), ("best bench/dense.xsb 49", 400)]
 SETS = ("harder", "doors", "dense")
 LIMITS = (5_000, 20_000)
 
@@ -68,7 +70,7 @@ def counted(program, name, limit):
         moves = "" if number % 4 else " --moves"
         line = first_line(program, f"best bench/{name}.xsb {number}{moves}", limit)
         decided += line.startswith("optimal ")
-        total += int(re.search(r"(\d+) pushes", line)[1])
+        total += int((re.search(r"at least (\d+)", line) or re.search(r"(\d+) pushes", line))[1])
         fewest += ", optimal " in line
     return decided, total, fewest
 
@@ -82,9 +84,16 @@ def floors(program, name, limit):
         yield f"bench/{name}.xsb, limit {limit}: {kind}", None if is_far else f"{got}, and {before} before"
 
 
+def found(program, command, limit):
+    """Whether a command finds a solution at a limit."""
+    line = first_line(program, command, limit)
+    yield f"{command}, limit {limit}", None if line.startswith("found ") else line
+
+
 def parts(program):
     """The tests of this page."""
-    return [(least, (program, *row)) for row in LEAST] + [(floors, (program, *it)) for it in FLOORS]
+    rows = [(least, LEAST), (floors, FLOORS), (found, FOUND)]
+    return [(part, (program, *row)) for part, table in rows for row in table]
 
 
 def found_least(program, command, first):

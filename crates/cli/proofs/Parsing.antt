@@ -40,7 +40,6 @@ is_simple_rule : (a : Argument) → (rule_for a).is_simple ≡ true
 is_simple_rule argument.File = refl
 is_simple_rule argument.Number = refl
 is_simple_rule argument.OptionalNumber = refl
-is_simple_rule argument.Solution = refl
 is_simple_rule argument.OptionalSolution = refl
 is_simple_rule argument.Solutions = refl
 is_simple_rule argument.Workers = refl

@@ -7,7 +7,7 @@ use Rattle.clap.specs.Walk.{Rule}
 use Rattle.clap.specs.declared.builder.action.ArgAction.TheVariants.{SetTrue}
 use Rattle.clap.specs.declared.parser.matches.ArgMatches.{ArgMatches}
 use Rattle.cli.specs.declared.arguments.Argument.{Argument}
-use Rattle.cli.specs.declared.arguments.Argument.TheVariants.{File, Number, OptionalNumber, Solution, OptionalSolution}
+use Rattle.cli.specs.declared.arguments.Argument.TheVariants.{File, Number, OptionalNumber, OptionalSolution}
 use Rattle.cli.specs.declared.arguments.Argument.TheVariants.{Solutions, Workers, Locks}
 use Rattle.cli.specs.declared.arguments.Argument.TheVariants.{Limit, MaxPushes, From, To, Moves, Table, Lurd, Progress}
 use Rattle.cli.specs.declared.request.Request.{Request}
@@ -20,9 +20,9 @@ use Rattle.cli.specs.Words.{word_of}
 abbrev pub arguments_of : Subcommand → List Argument
 arguments_of Check = File ∷ []
 arguments_of Explain = File ∷ OptionalNumber ∷ []
-arguments_of Show = File ∷ Number ∷ []
+arguments_of Show = File ∷ OptionalNumber ∷ From ∷ To ∷ []
 arguments_of Dead = File ∷ Number ∷ []
-arguments_of Replay = File ∷ Number ∷ Solution ∷ []
+arguments_of Replay = File ∷ OptionalNumber ∷ OptionalSolution ∷ Solutions ∷ From ∷ To ∷ Table ∷ []
 arguments_of Solve = File ∷ Number ∷ Workers ∷ Locks ∷ Limit ∷ MaxPushes ∷ Lurd ∷ []
 arguments_of Best = File ∷ OptionalNumber ∷ From ∷ To ∷ Workers ∷ Limit ∷ MaxPushes ∷ Moves ∷ Table ∷
     Lurd ∷ Progress ∷ []
@@ -52,7 +52,6 @@ abbrev pub rule_for : Argument → Rule
 rule_for File = operand (codes "FILE")
 rule_for Number = operand (codes "N")
 rule_for OptionalNumber = optional_operand (codes "N")
-rule_for Solution = operand (codes "SOLUTION")
 rule_for OptionalSolution = optional_operand (codes "SOLUTION")
 rule_for Solutions = option (codes "solutions")
 rule_for Workers = option_or (codes "workers") (codes "1")

@@ -8,12 +8,13 @@ use Rattle.sokopar.specs.Levels.{BeginsReport, IsBestLine, IsProveLine, IsReport
 use Rattle.sokopar.specs.OneLevel.{IsLevelReport}
 use Rattle.sokopar.specs.Report.{Report, IsCheckReport, IsReplayReport, IsShowReport, Written, WrittenOfTwo}
 use Rattle.sokopar.specs.Runs.{Runs, RunsByLine, RunsInTwo}
+use Rattle.sokopar.specs.Showing.{IsRangeReport}
 use Rattle.sokopar.specs.declared.fault.RunFault.{RunFault}
 use Rattle.sokopar.specs.declared.fault.RunFault.TheVariants.{OutOfMemory}
 use Rattle.cli.specs.CommandLine.{IsNoRequest, IsRequestOf}
 use Rattle.cli.specs.declared.request.Request.{Request}
 use Rattle.cli.specs.declared.request.Task.{Task}
-use Rattle.cli.specs.declared.request.Task.TheVariants.{Check, Explain, Show, Dead, Replay, Solve, Best}
+use Rattle.cli.specs.declared.request.Task.TheVariants.{Check, Explain, Show, ShowRange, Dead, Replay, Solve, Best}
 use Rattle.cli.specs.declared.request.Task.TheVariants.{BestCollection, Prove, ProveCollection}
 use Rattle.cli.specs.declared.trouble.Trouble.{Trouble}
 use Rattle.cli.specs.declared.trouble.Trouble.TheVariants as trouble
@@ -77,6 +78,7 @@ module _ {File : Type 0} (opens : List ℕ → Option File → Type 0) (seen : F
   RunsEngine refuses path Check = RunsOn IsCheckReport path
   RunsEngine refuses path (Explain number) = RunsOn (IsExplainReport number) path
   RunsEngine refuses path (Show number) = RunsOn (IsShowReport number) path
+  RunsEngine refuses path (ShowRange from to) = RunsOn (IsRangeReport from to) path
   RunsEngine refuses path (Dead number) = RunsOn (IsDeadReport number) path
   RunsEngine refuses path (Replay number solution) = RunsOnTwo (IsReplayReport number) number path solution.now
   RunsEngine refuses path (Solve search) =

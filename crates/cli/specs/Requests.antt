@@ -1,5 +1,5 @@
 -- What a command line asks for.
-use Rattle.std.specs.Prelude.{◌≡◌, ℕ, ◌≤◌, Bool, false, List, Option, Some, codes, ⊤}
+use Rattle.std.specs.Prelude.{◌≡◌, ℕ, ◌≤◌, Bool, false, true, List, Option, Some, codes, ⊤}
 use Rattle.clap.specs.Walk.{Row}
 use Rattle.crew.specs.Configured.{IsWithinLimits}
 use Rattle.sokopar.specs.declared.engines.SolveRequest.{SolveRequest}
@@ -7,7 +7,7 @@ use Rattle.judging.specs.declared.judgement.Settings.{Settings}
 use Rattle.cli.specs.declared.arguments.TheConstants.{MOST, MOST_LOCKS, MOST_WORKERS}
 use Rattle.cli.specs.declared.request.Request.{Request}
 use Rattle.cli.specs.declared.request.Task.{Task}
-use Rattle.cli.specs.declared.request.Task.TheVariants.{Check, Explain, Show, Dead, Replay, Solve, Best}
+use Rattle.cli.specs.declared.request.Task.TheVariants.{Check, Explain, Show, ShowRange, Dead, Replay, Solve, Best}
 use Rattle.cli.specs.declared.request.Task.TheVariants.{BestCollection, Prove, ProveCollection}
 use Rattle.cli.specs.declared.subcommands.Subcommand.{Subcommand}
 use Rattle.cli.specs.declared.subcommands.Subcommand.TheVariants as subcommand
@@ -35,43 +35,49 @@ pub record HasConfig (arguments : List Row) (workers : ℕ) (config : Settings) 
   pub settings : HasSettings arguments workers config.limit config.moves
   pub cap : MayHaveNumber arguments (codes "max-pushes") 0 MOST config.cap
 
--- the level is the number of its argument, and neither a range of levels nor the flag for a table is given; only the
--- solution is written exactly if the flag is given
-pub record NamesLevel (arguments : List Row) (number : ℕ) (lurd : Bool) : Type 0 where
+-- the level is the number of its argument, and neither a range of levels nor the flag for a table is given
+pub record NamesLevel (arguments : List Row) (number : ℕ) : Type 0 where
   pub given_number : HasNumber arguments (codes "N") MOST number
   pub no_first : LacksText arguments (codes "from")
   pub no_last : LacksText arguments (codes "to")
   pub no_table : HasFlag arguments (codes "table") false
-  pub given_lurd : HasFlag arguments (codes "lurd") lurd
 
 -- no level is given, and no flag to write only the solution, and the range of levels has the numbers of the arguments:
--- without them it begins at 1 and has no end, and it does not end before it begins; the report is a table exactly if the
--- flag is given
-pub record NamesRange (arguments : List Row) (from to : ℕ) (table : Bool) : Type 0 where
+-- without them it begins at 1 and has no end, and it does not end before it begins
+pub record NamesRange (arguments : List Row) (from to : ℕ) : Type 0 where
   pub no_level : LacksText arguments (codes "N")
   pub no_lurd : HasFlag arguments (codes "lurd") false
   pub first : HasNumberOr arguments (codes "from") 1 1 MOST from
   pub last : HasNumberOr arguments (codes "to") MOST from MOST to
-  pub given_table : HasFlag arguments (codes "table") table
 
 -- the arguments of a subcommand ask for this task: its paths are their texts, its numbers their numbers
 abbrev pub AsksTask : Subcommand → List Row → Task → Type 0
 AsksTask subcommand.Check arguments Check = ⊤
 AsksTask subcommand.Explain arguments (Explain number) = MayHaveNumber arguments (codes "N") 1 MOST number
-AsksTask subcommand.Show arguments (Show number) = HasNumber arguments (codes "N") MOST number
+AsksTask subcommand.Show arguments (Show number) = NamesLevel arguments number
+AsksTask subcommand.Show arguments (ShowRange from to) = NamesRange arguments from to
 AsksTask subcommand.Dead arguments (Dead number) = HasNumber arguments (codes "N") MOST number
 AsksTask subcommand.Replay arguments (Replay number solution) =
-    HasNumber arguments (codes "N") MOST number × HasText arguments (codes "SOLUTION") solution.now
+    NamesLevel arguments number × HasText arguments (codes "SOLUTION") solution.now ×
+    LacksText arguments (codes "solutions")
+AsksTask subcommand.Replay arguments (ProveCollection search folder) =
+    NamesRange arguments search.from search.to × HasFlag arguments (codes "table") search.table ×
+    (search.proves ≡ false) ×
+    HasText arguments (codes "solutions") folder.now × LacksText arguments (codes "SOLUTION")
 AsksTask subcommand.Solve arguments (Solve search) = AsksToSolve arguments search
 AsksTask subcommand.Best arguments (Best search) =
-    NamesLevel arguments search.number search.lurd × HasConfig arguments search.workers search.settings
+    NamesLevel arguments search.number × HasFlag arguments (codes "lurd") search.lurd ×
+    HasConfig arguments search.workers search.settings
 AsksTask subcommand.Best arguments (BestCollection search) =
-    NamesRange arguments search.from search.to search.table × HasConfig arguments search.workers search.settings
+    NamesRange arguments search.from search.to × HasFlag arguments (codes "table") search.table ×
+    HasConfig arguments search.workers search.settings
 AsksTask subcommand.Prove arguments (Prove search solution) =
-    NamesLevel arguments search.number search.lurd × HasSettings arguments search.workers search.settings.limit search.settings.moves ×
+    NamesLevel arguments search.number × HasFlag arguments (codes "lurd") search.lurd ×
+    HasSettings arguments search.workers search.settings.limit search.settings.moves ×
     HasText arguments (codes "SOLUTION") solution.now × LacksText arguments (codes "solutions")
 AsksTask subcommand.Prove arguments (ProveCollection search folder) =
-    NamesRange arguments search.from search.to search.table ×
+    NamesRange arguments search.from search.to × HasFlag arguments (codes "table") search.table ×
+    (search.proves ≡ true) ×
     HasSettings arguments search.workers search.settings.limit search.settings.moves ×
     HasText arguments (codes "solutions") folder.now × LacksText arguments (codes "SOLUTION")
 AsksTask subcommand arguments task = ⊥

@@ -34,8 +34,6 @@ pub enum Argument {
     Number,
     /// The operand N, which may be left out.
     OptionalNumber,
-    /// The operand SOLUTION.
-    Solution,
     /// The operand SOLUTION, which may be left out.
     OptionalSolution,
     /// The option `--solutions FOLDER`.
@@ -71,7 +69,6 @@ impl Argument {
             Argument::OptionalNumber => {
                 "The number of a level, counted from 1; without it all levels"
             }
-            Argument::Solution => "A file with the moves in LURD notation",
             Argument::OptionalSolution => "A file with the moves in LURD notation",
             Argument::Solutions => "Without N and SOLUTION: all N.lurd of a folder",
             Argument::Workers => "Number of threads",
@@ -96,7 +93,6 @@ impl Argument {
             Argument::File => operand(alloc, "FILE", help),
             Argument::Number => operand(alloc, "N", help),
             Argument::OptionalNumber => optional_operand(alloc, "N", help),
-            Argument::Solution => operand(alloc, "SOLUTION", help),
             Argument::OptionalSolution => optional_operand(alloc, "SOLUTION", help),
             Argument::Solutions => option(alloc, "solutions", "FOLDER", help),
             Argument::Workers => option_or(alloc, "workers", "W", help, DEFAULT_WORKERS),

@@ -14,7 +14,7 @@ use crew::Free;
 use sokopar::{
     LevelRequest, LevelsRequest, RunFault, Sink, SolveRequest, run_best, run_best_collection,
     run_check, run_dead, run_explain, run_prove, run_prove_collection, run_replay, run_show,
-    run_solve_with,
+    run_show_range, run_solve_with,
 };
 use std::alloc::Global;
 use std::sync::Wait;
@@ -65,6 +65,23 @@ pub(crate) fn show<'a, S: System, K: Sink>(
 {
     let mut source = system.open(file)?;
     Ok(run_show(alloc, &mut source, number, sink)?)
+}
+
+/// Shows the levels of a part of the collection.
+#[tactic(auto, using(crate::proofs::Running::endings))]
+pub(crate) fn show_range<'a, S: System, K: Sink>(
+    system: &S,
+    alloc: Global,
+    file: &'a str,
+    from: u32,
+    to: u32,
+    sink: &mut K,
+) -> Result<u8, Trouble<'a>>
+    ensures { Performs S.opens S.refuses S.File.seen (K.seen sink.old) (K.seen sink.new)
+        file.now (Task.ShowRange from to) result }
+{
+    let mut source = system.open(file)?;
+    Ok(run_show_range(alloc, &mut source, from, to, sink)?)
 }
 
 /// Shows the dead squares of a level.
@@ -191,7 +208,7 @@ pub(crate) fn prove<'a, R: Eprint + Threads + Sync, S: System, K: Sink>(
     )?)
 }
 
-/// Proves the solutions of a folder for the levels of a collection that is open.
+/// Proves or replays the solutions of a folder for the levels of a collection that is open.
 fn prove_solutions<R: Eprint + Threads + Sync, S: System, K: Sink>(
     rt: &R,
     system: &S,
@@ -216,7 +233,7 @@ fn prove_solutions<R: Eprint + Threads + Sync, S: System, K: Sink>(
     run_prove_collection(rt, alloc, source, &solutions, search, &mut meter, sink)
 }
 
-/// Proves that each solution of a folder has the fewest pushes on its level of a part of a collection.
+/// Proves or replays each solution of a folder on its level of a part of a collection.
 #[tactic(auto, using(crate::proofs::Running::endings))]
 pub(crate) fn prove_collection<'a, R: Eprint + Threads + Sync, S: System, K: Sink>(
     rt: &R,

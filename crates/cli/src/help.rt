@@ -92,7 +92,8 @@ If a level is missing, split or joined to another:
 
 If the report is '0 levels, 0 good' (status 0), no line of FILE is a row. Usual
 causes: FILE is UTF-16, or packed (gzip, zip), its lines end with CR alone, or
-they are quoted, as in mail (> ####). Convert FILE first.";
+they are quoted, as in mail (> ####). Convert FILE first. 'sokopar explain'
+then says which line looks like a board of other characters.";
 
 /// The end of the help of `check`: its lines, the faults, why levels are not found, and an example.
 fn check_notes(alloc: Global) -> Result<String, AllocError> {
@@ -105,12 +106,23 @@ fn check_notes(alloc: Global) -> Result<String, AllocError> {
           2 TooWide     More than {MAX_COLS} columns. Look for a count that is too great, as in\n                \
                         2550#.\
         {FAULTS}\n\n{MISSING}\n\n\
-        'sokopar explain' names the squares of a fault, and lines of text with a wall.\n\n\
+        'sokopar explain FILE N' says where and why level N is faulty.\n\n\
         Examples (FILE is one file; the second one checks many):\n  \
           sokopar check levels.xsb\n  \
           for f in *.xsb; do echo \"$f\"; sokopar check \"$f\"; done"
     )
 }
+
+/// The end of the help of `show`.
+pub const SHOW: &str = "\
+Without N it shows all levels, or those from A to B: a line '; NAME', plain rows
+and an empty line for each. A faulty level is a comment with the line of check;
+then the exit status is 1. Reading this gives the same lawful levels and names.
+A level of which a row has no wall is one line, with | between its rows.
+
+Examples:
+  sokopar show levels.xsb 1
+  sokopar show levels.xsb --from 1 --to 10 > ten.xsb";
 
 /// The squares of the map, in the help of `dead`.
 pub const DEAD: &str = "\
@@ -148,16 +160,29 @@ const TEXT_FAULTS: &str = "
                   digits, is not 0, and a letter comes right after it: 3r means
                   rrr. 0R and 2 R have no count.";
 
+/// The reports on a folder, in the help of `replay`.
+const REPLAYED: &str = "\
+With --solutions FOLDER in place of N and SOLUTION, replay goes through FILE, or
+its levels from --from to --to. It prints a line for each level N of which the
+folder has a file N.lurd, with the verdict after N, and the totals. With --table
+it prints a table. All is as 'sokopar prove --help' says, without a search. The
+exit status is 0 if all that have a solution are solved.";
+
 /// The end of the help of `explain`.
 pub(crate) const EXPLAIN: &str = "\
 With N, explain tells of level N, also if nothing is found against it, and shows
 it. In a level that check calls ok, x is then a dead square, and ! a box on one.
 Without N it goes through FILE, and tells of each level against which it finds
-something, and of lines with a wall that are no rows: such a line ends a level.
+something. Both name lines that may be meant as rows and are none: they have a
+wall and another character, or cells and no wall. Such a line ends a level.
 Places are lines and columns of FILE, counted from 1.
 
-For a level that check calls ok it looks for boxes on dead squares and frozen
-boxes at the start. If it finds none, the level may still be unsolvable.
+If a command reports the fault of a level, explain FILE N says where and why.
+For a level that check calls ok it says if the start is solved, and if it is
+unsolvable because boxes or goals are out of the player's reach, boxes are on
+dead squares or frozen, the player cannot move, or some boxes together get to
+fewer goals than they are. If nothing is found, the level may still be
+unsolvable.
 
 The exit status is 0 if each level is lawful and nothing was found, else 1.";
 
@@ -173,9 +198,11 @@ fn replay_notes(alloc: Global) -> Result<String, AllocError> {
         is that fault: see 'sokopar check --help'.\n\n\
         SOLUTION may be /dev/stdin. The first line that solve, best and prove write is a\n\
         verdict: --lurd leaves it out.\n\n\
+        {REPLAYED}\n\n\
         Example:\n  \
           sokopar solve levels.xsb 1 --lurd |\n      \
-              sokopar replay levels.xsb 1 /dev/stdin"
+              sokopar replay levels.xsb 1 /dev/stdin\n  \
+          sokopar replay levels.xsb --solutions solutions"
     )
 }
 
@@ -232,8 +259,11 @@ The first line says what was found:
                                          pushes. No solution has fewer.
   unsolvable                             There is no solution.
   none within M pushes                   No solution has M pushes or fewer.
-  limit L reached, at least P pushes     Undecided: give a greater --limit. No
-                                         solution has fewer than P pushes.";
+  found P pushes, S moves, limit L reached, at least K pushes
+                                         Undecided: the second line is a
+                                         solution. None has fewer than K pushes.
+  limit L reached, at least K pushes     Undecided: give a greater --limit. No
+                                         solution has fewer than K pushes.";
 
 /// The reports with `--moves`, in the help of `best`.
 const FEWEST_MOVES: &str = "\

@@ -18,6 +18,7 @@ mod stack;
 mod steady;
 mod subcommands;
 mod system;
+mod tasks;
 mod trouble;
 
 use clap::error::ErrorKind;
@@ -57,6 +58,7 @@ fn perform<'a, R: Eprint + Threads + Wait + Sync, S: System, K: Sink>(
         Task::Check => check(system, alloc, file, sink),
         Task::Explain(number) => commands::explain(system, alloc, file, number, sink),
         Task::Show(number) => show(system, alloc, file, number, sink),
+        Task::ShowRange { from, to } => commands::show_range(system, alloc, file, from, to, sink),
         Task::Dead(number) => dead(system, alloc, file, number, sink),
         Task::Replay { number, solution } => replay(system, alloc, file, number, solution, sink),
         Task::Solve(search) => solve(rt, system, alloc, file, search, sink),

@@ -10,7 +10,7 @@ use crate::arguments::MOST;
 use clap::ArgMatches;
 use std::alloc::{AllocError, Global};
 
-/// An argument that is missing, or whose text it does not accept.
+/// An argument that is missing, or whose text the program does not accept.
 #[derive(Clone, Copy, Debug)]
 pub(crate) enum BadArgument<'a> {
     /// The argument, as the usage line shows it, is missing.
@@ -153,7 +153,7 @@ pub(crate) fn lacks<'a>(
     }
 }
 
-/// Fails if the flag with this name is given, as `bad` says.
+/// Fails with `bad` if the flag with this name is given.
 pub(crate) fn lacks_flag<'a>(
     matches: &ArgMatches<'a>,
     name: &str,

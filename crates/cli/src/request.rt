@@ -1,25 +1,21 @@
 //! The request of a command line.
-ghost use Rattle.std.specs.Prelude.{◌≡◌, ◌≢◌, ◌⊎◌, [], Some, None, IfOk, IfErr, IfSome, IfNone, OnErr, codes, map};
+ghost use Rattle.std.specs.Prelude.{◌≡◌, ◌≢◌, ◌⊎◌, [], Some, IfOk, IfErr, IfSome, IfNone, OnErr, map};
 ghost use Rattle.std.specs.String.{string_bytes};
 ghost use Rattle.clap.specs.Faults.{fault_of};
 ghost use Rattle.clap.specs.Simple.{subcommand_rows_of};
 ghost use Rattle.clap.specs.Values.{kind_of};
 ghost use Rattle.clap.specs.declared.error.kind.ErrorKind.TheVariants.{OutOfMemory};
 ghost use Rattle.cli.specs.CommandLine.{AreMatchesOf, IsNoRequest, IsRequestOf, program};
-ghost use Rattle.cli.specs.Requests.{Asks, AsksFor, AsksForNone, AsksTask, HasConfig, IsInRange};
-ghost use Rattle.cli.specs.Words.{HasText, LacksText, found_in, number_if_given, number_in, word_of};
-ghost use Rattle.cli.specs.declared.arguments.TheConstants.{MOST, MOST_WORKERS};
+ghost use Rattle.cli.specs.Requests.{Asks, AsksFor, AsksForNone, IsInRange};
+ghost use Rattle.cli.specs.Words.{found_in, word_of};
 
-use crate::arguments::{MOST, MOST_LOCKS, MOST_WORKERS};
 use crate::help::Notes;
-use crate::numbers::{
-    BadArgument, given, has_flag, lacks, lacks_flag, number_if_given, number_of, text_of, words_of,
-};
+use crate::numbers::{BadArgument, has_flag, text_of, words_of};
 use crate::subcommands::{Subcommand, command, usage_of};
+use crate::tasks::task_of;
 use clap::error::ErrorKind;
 use clap::{ArgMatches, Error};
-use crew::Config;
-use sokopar::{LevelRequest, LevelsRequest, Settings, SolveRequest};
+use sokopar::{LevelRequest, LevelsRequest, SolveRequest};
 use std::alloc::{AllocError, Global};
 
 /// The request of a command line.
@@ -41,6 +37,11 @@ pub enum Task<'a> {
     Explain(Option<u32>),
     /// Show a level.
     Show(u32),
+    /// Show the levels of a part of the collection.
+    ShowRange {
+        from: u32,
+        to: u32,
+    },
     /// Show the dead squares of a level.
     Dead(u32),
     /// Replay the text of a solution file on a level.
@@ -59,183 +60,14 @@ pub enum Task<'a> {
         search: LevelRequest,
         solution: &'a str,
     },
-    /// Prove that each solution of a folder has the fewest pushes on its level of a part of the collection.
+    /// Prove each solution of a folder on its level of a part of the collection, or only replay it.
     ProveCollection {
         search: LevelsRequest,
         folder: &'a str,
     },
 }
 
-/// The task of the arguments of `solve`.
-fn solve_task<'a>(matches: &ArgMatches<'a>) -> Result<Task<'a>, BadArgument<'a>>
-    ensures ok { IfOk result (λ task. AsksTask Subcommand.Solve (found_in matches.now) task) }
-    ensures range { IfOk result (λ task. IsInRange task) }
-    ensures err { OnErr result ((task : Task) → ¬ (AsksTask Subcommand.Solve (found_in matches.now) task)) }
-{
-    let number = number_of(matches, "N", "<N>", MOST)?;
-    let workers = number_of(matches, "workers", "--workers <W>", MOST_WORKERS)?;
-    let locks = number_of(matches, "locks", "--locks <K>", MOST_LOCKS)?;
-    let limit = number_of(matches, "limit", "--limit <L>", MOST)?;
-    let cap = number_if_given(matches, "max-pushes", "--max-pushes <M>", 0)?;
-    let config = Config {
-        workers: workers as u8,
-        locks: locks as u8,
-        limit,
-        cap,
-    };
-    let lurd = has_flag(matches, "lurd");
-    Ok(Task::Solve(SolveRequest {
-        number,
-        config,
-        lurd,
-    }))
-}
-
-/// The number of workers of `best`, and its settings.
-fn config_of<'a>(matches: &ArgMatches<'a>) -> Result<(u8, Settings), BadArgument<'a>>
-    ensures ok { IfOk result (λ config. HasConfig (found_in matches.now) config.0 config.1) }
-    ensures err { OnErr result (
-        (number_in (found_in matches.now) (codes "workers") MOST_WORKERS ≡ None) ⊎
-        (number_in (found_in matches.now) (codes "limit") MOST ≡ None) ⊎
-        (number_if_given (found_in matches.now) (codes "max-pushes") 0 MOST ≡ None)) }
-{
-    let workers = number_of(matches, "workers", "--workers <W>", MOST_WORKERS)?;
-    let limit = number_of(matches, "limit", "--limit <L>", MOST)?;
-    let cap = number_if_given(matches, "max-pushes", "--max-pushes <M>", 0)?;
-    let moves = has_flag(matches, "moves");
-    Ok((workers as u8, Settings { cap, limit, moves }))
-}
-
-/// The task of the arguments of `best`.
-fn best_task<'a>(matches: &ArgMatches<'a>) -> Result<Task<'a>, BadArgument<'a>>
-    ensures ok { IfOk result (λ task. AsksTask Subcommand.Best (found_in matches.now) task) }
-    ensures range { IfOk result (λ task. IsInRange task) }
-    ensures err { OnErr result ((task : Task) → ¬ (AsksTask Subcommand.Best (found_in matches.now) task)) }
-{
-    match given(matches, "N") {
-        Some(_) => {
-            let number = number_of(matches, "N", "<N>", MOST)?;
-            lacks(matches, "from", "--from <A>", "[N]")?;
-            lacks(matches, "to", "--to <B>", "[N]")?;
-            lacks_flag(matches, "table", BadArgument::Beside("--table", "[N]"))?;
-            let (workers, settings) = config_of(matches)?;
-            let lurd = has_flag(matches, "lurd");
-            Ok(Task::Best(LevelRequest {
-                number,
-                workers,
-                settings,
-                lurd,
-            }))
-        }
-        None => {
-            lacks_flag(matches, "lurd", BadArgument::WithoutLevel("--lurd"))?;
-            let from = number_if_given(matches, "from", "--from <A>", 1)?.unwrap_or(1);
-            let to = number_if_given(matches, "to", "--to <B>", from)?.unwrap_or(MOST);
-            let (workers, settings) = config_of(matches)?;
-            let table = has_flag(matches, "table");
-            Ok(Task::BestCollection(LevelsRequest {
-                from,
-                to,
-                table,
-                workers,
-                settings,
-            }))
-        }
-    }
-}
-
-/// The task of the arguments of `prove` without a folder.
-fn prove_task<'a>(matches: &ArgMatches<'a>) -> Result<Task<'a>, BadArgument<'a>>
-    requires { LacksText (found_in matches.now) (codes "solutions") }
-    ensures ok { IfOk result (λ task. AsksTask Subcommand.Prove (found_in matches.now) task) }
-    ensures range { IfOk result (λ task. IsInRange task) }
-    ensures err { OnErr result ((task : Task) → ¬ (AsksTask Subcommand.Prove (found_in matches.now) task)) }
-{
-    let solution = text_of(matches, "SOLUTION", "<SOLUTION>")?;
-    let number = number_of(matches, "N", "<N>", MOST)?;
-    let workers = number_of(matches, "workers", "--workers <W>", MOST_WORKERS)?;
-    let limit = number_of(matches, "limit", "--limit <L>", MOST)?;
-    lacks(matches, "from", "--from <A>", "[N]")?;
-    lacks(matches, "to", "--to <B>", "[N]")?;
-    lacks_flag(matches, "table", BadArgument::Beside("--table", "[N]"))?;
-    let moves = has_flag(matches, "moves");
-    let cap = None;
-    let search = LevelRequest {
-        number,
-        workers: workers as u8,
-        settings: Settings { cap, limit, moves },
-        lurd: has_flag(matches, "lurd"),
-    };
-    Ok(Task::Prove { search, solution })
-}
-
-/// The task of the arguments of `prove` for the solutions of this folder.
-fn solutions_task<'a>(
-    folder: &'a str,
-    matches: &ArgMatches<'a>,
-) -> Result<Task<'a>, BadArgument<'a>>
-    requires { HasText (found_in matches.now) (codes "solutions") folder.now }
-    ensures ok { IfOk result (λ task. AsksTask Subcommand.Prove (found_in matches.now) task) }
-    ensures range { IfOk result (λ task. IsInRange task) }
-    ensures err { OnErr result ((task : Task) → ¬ (AsksTask Subcommand.Prove (found_in matches.now) task)) }
-{
-    lacks(matches, "N", "[N]", "--solutions <FOLDER>")?;
-    lacks(matches, "SOLUTION", "[SOLUTION]", "--solutions <FOLDER>")?;
-    lacks_flag(matches, "lurd", BadArgument::WithoutLevel("--lurd"))?;
-    let from = number_if_given(matches, "from", "--from <A>", 1)?.unwrap_or(1);
-    let to = number_if_given(matches, "to", "--to <B>", from)?.unwrap_or(MOST);
-    let workers = number_of(matches, "workers", "--workers <W>", MOST_WORKERS)?;
-    let limit = number_of(matches, "limit", "--limit <L>", MOST)?;
-    let moves = has_flag(matches, "moves");
-    let cap = None;
-    let search = LevelsRequest {
-        from,
-        to,
-        table: has_flag(matches, "table"),
-        workers: workers as u8,
-        settings: Settings { cap, limit, moves },
-    };
-    Ok(Task::ProveCollection { search, folder })
-}
-
-/// The task of the arguments of a subcommand.
-fn task_of<'a>(
-    subcommand: Subcommand,
-    matches: &ArgMatches<'a>,
-) -> Result<Task<'a>, BadArgument<'a>>
-    ensures ok { IfOk result (λ task. AsksTask subcommand (found_in matches.now) task) }
-    ensures range { IfOk result (λ task. IsInRange task) }
-    ensures err { OnErr result ((task : Task) → ¬ (AsksTask subcommand (found_in matches.now) task)) }
-{
-    match subcommand {
-        Subcommand::Check => Ok(Task::Check),
-        Subcommand::Explain => {
-            let number = number_if_given(matches, "N", "<N>", 1)?;
-            Ok(Task::Explain(number))
-        }
-        Subcommand::Show => {
-            let number = number_of(matches, "N", "<N>", MOST)?;
-            Ok(Task::Show(number))
-        }
-        Subcommand::Dead => {
-            let number = number_of(matches, "N", "<N>", MOST)?;
-            Ok(Task::Dead(number))
-        }
-        Subcommand::Replay => {
-            let number = number_of(matches, "N", "<N>", MOST)?;
-            let solution = text_of(matches, "SOLUTION", "<SOLUTION>")?;
-            Ok(Task::Replay { number, solution })
-        }
-        Subcommand::Solve => solve_task(matches),
-        Subcommand::Best => best_task(matches),
-        Subcommand::Prove => match given(matches, "solutions") {
-            Some(folder) => solutions_task(folder, matches),
-            None => prove_task(matches),
-        },
-    }
-}
-
-/// The request of the arguments of a subcommand.
+/// The request that the arguments of a subcommand make.
 #[tactic(auto, using(crate::proofs::Asking::no_task))]
 fn request_of<'a>(
     subcommand: Subcommand,
@@ -281,7 +113,7 @@ fn chosen<'m, 'a>(matches: &'m ArgMatches<'a>) -> Option<(Subcommand, &'m ArgMat
     Some((Subcommand::named(word)?, inner))
 }
 
-/// The request of the matches of the command line. An error is out of memory, or they ask for no request.
+/// The request that clap's matches of the command line make. An error is out of memory, or they make none.
 #[tactic(auto, using(crate::proofs::Parsing::refuses))]
 fn asked<'a>(alloc: Global, matches: &ArgMatches<'a>, notes: &Notes) -> Result<Request<'a>, Error>
     ensures ok { IfOk result (λ request. AsksFor (subcommand_rows_of matches.now) request) }

@@ -38,7 +38,7 @@ pub(crate) fn enlarge<R: Files>(rt: &R, alloc: Global) -> Result<(), AllocError>
     let is_there = room.as_slice().iter().all(|byte| *byte == MARK);
     drop(room);
     // the two tests keep the compiler from removing the reservation and the writes
-    if is_there && touch(STACK / PAGE, &[MARK; PAGE]) == MARK {
+    if is_there && touch_pages(STACK / PAGE, &[MARK; PAGE]) == MARK {
         Ok(())
     } else {
         Err(AllocError)
@@ -57,8 +57,9 @@ fn limit<R: Files>(rt: &R, alloc: Global) -> Option<u64> {
     None
 }
 
-/// Writes to a new page of the stack in each of some nested calls, and passes the byte of the page above down.
-fn touch(pages: usize, above: &[u8; PAGE]) -> u8
+/// Writes to a new page of the stack in each of some nested calls. Each call passes on the byte of the page above, so
+/// the result depends on every write, and the compiler removes none.
+fn touch_pages(pages: usize, above: &[u8; PAGE]) -> u8
     requires { pages < 4096 }
 {
     if pages == 0 {
@@ -66,5 +67,5 @@ fn touch(pages: usize, above: &[u8; PAGE]) -> u8
     }
     let mut page = [0; PAGE];
     page[pages - 1] = above[pages];
-    touch(pages - 1, &page)
+    touch_pages(pages - 1, &page)
 }

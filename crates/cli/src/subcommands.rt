@@ -75,7 +75,7 @@ impl Subcommand {
         match self {
             Subcommand::Check => "Checks each level",
             Subcommand::Explain => "Says where and why levels are faulty",
-            Subcommand::Show => "Shows a level in plain rows",
+            Subcommand::Show => "Shows levels in plain rows",
             Subcommand::Dead => "Shows walls, goals and dead squares of a level",
             Subcommand::Replay => "Replays a solution on a level",
             Subcommand::Solve =>
@@ -90,7 +90,7 @@ impl Subcommand {
         match self {
             Subcommand::Check => Some(notes.check.as_str()),
             Subcommand::Explain => Some(help::EXPLAIN),
-            Subcommand::Show => None,
+            Subcommand::Show => Some(help::SHOW),
             Subcommand::Dead => Some(help::DEAD),
             Subcommand::Replay => Some(notes.replay.as_str()),
             Subcommand::Solve => Some(notes.solve.as_str()),
@@ -106,8 +106,22 @@ impl Subcommand {
         match self {
             Subcommand::Check => &[Argument::File],
             Subcommand::Explain => &[Argument::File, Argument::OptionalNumber],
-            Subcommand::Show | Subcommand::Dead => &[Argument::File, Argument::Number],
-            Subcommand::Replay => &[Argument::File, Argument::Number, Argument::Solution],
+            Subcommand::Show => &[
+                Argument::File,
+                Argument::OptionalNumber,
+                Argument::From,
+                Argument::To,
+            ],
+            Subcommand::Dead => &[Argument::File, Argument::Number],
+            Subcommand::Replay => &[
+                Argument::File,
+                Argument::OptionalNumber,
+                Argument::OptionalSolution,
+                Argument::Solutions,
+                Argument::From,
+                Argument::To,
+                Argument::Table,
+            ],
             Subcommand::Solve => &[
                 Argument::File,
                 Argument::Number,

@@ -28,7 +28,7 @@ pub(crate) trait System {
         ensures { IfErr result (λ trouble. CannotOpen refuses path.now trouble) };
 
     /// Opens the file at a path; `None` if there is no such file. Fails with [`RunFault::Read`] if it cannot be opened,
-    /// or if out of memory.
+    /// or with [`RunFault::OutOfMemory`].
     fn open_if_any(&self, path: &str) -> Result<Option<Self::File>, RunFault>
         ensures opened { MayOpen opens refuses path.now result }
         ensures fresh { IfOk result (λ file. IfSome file (λ file. (Self.File.seen file).acts ≡ [])) }

@@ -1,5 +1,5 @@
 -- How reports count a judgement, and the totals and the status of several.
-use Rattle.std.specs.Prelude.{ℕ, ◌==◌, if◌then◌else◌, Bool, true, false, cond, List, ◌++◌, length, count_by}
+use Rattle.std.specs.Prelude.{ℕ, ◌==◌, nat_lt, if◌then◌else◌, Bool, true, false, cond, List, ◌++◌, length, count_by}
 use Rattle.std.specs.Prelude.{Option, Some, None, codes, decimal}
 use Rattle.std.specs.List.{list_any}
 use Rattle.lurd.specs.declared.verdict.Verdict.{Verdict}
@@ -52,12 +52,12 @@ kind_by true claim given found = claim_kind claim
 kind_by false claim given None = kind.Open
 kind_by false claim given (Some s) = kind.Found
 
--- the kind of a verdict on a solution that does not solve the level
-abbrev pub failure_kind : Verdict → Kind
-failure_kind (verdict.Blocked at) = kind.Blocked
-failure_kind (verdict.WrongCase at) = kind.WrongCase
-failure_kind (verdict.Unsolved pushes moves) = kind.Unsolved
-failure_kind (verdict.Solved pushes moves) = kind.Unsolved
+-- the kind of a verdict on a solution
+abbrev pub verdict_kind : Verdict → Kind
+verdict_kind (verdict.Solved pushes moves) = kind.Solved
+verdict_kind (verdict.Unsolved pushes moves) = kind.Unsolved
+verdict_kind (verdict.Blocked at) = kind.Blocked
+verdict_kind (verdict.WrongCase at) = kind.WrongCase
 
 -- the kind of a judgement
 abbrev pub kind_of : Judgement → Kind
@@ -66,7 +66,7 @@ kind_of is.NoneWithin = kind.NoneWithin
 kind_of is.Unsolvable = kind.Unsolvable
 kind_of (is.TooManyBoxes given) = kind.TooManyBoxes
 kind_of (is.OutOfMemory given bound) = kind.OutOfMemory
-kind_of (is.Failing verdict) = failure_kind verdict
+kind_of (is.Replayed verdict) = verdict_kind verdict
 kind_of (is.BadText fault) = kind.BadText
 kind_of (is.Faulty fault) = kind.Fault
 kind_of is.CannotRead = kind.CannotRead
@@ -75,6 +75,7 @@ kind_of is.Missing = kind.Missing
 -- the exit status of one level
 abbrev pub kind_status : Kind → ℕ
 kind_status kind.Optimal = 0
+kind_status kind.Solved = 0
 kind_status kind.Missing = 0
 kind_status kind.CannotRead = 3
 kind_status kind.OptimalPushes = 4
@@ -92,6 +93,7 @@ kind_word kind.Found = codes "found"
 kind_word kind.Open = codes "open"
 kind_word kind.Unsolvable = codes "unsolvable"
 kind_word kind.NoneWithin = codes "none_within"
+kind_word kind.Solved = codes "solved"
 kind_word kind.Unsolved = codes "unsolved"
 kind_word kind.Blocked = codes "blocked"
 kind_word kind.WrongCase = codes "wrong_case"
@@ -109,6 +111,7 @@ abbrev pub given_of : Judgement → Option Counts
 given_of (is.Searched known) = known.given
 given_of (is.TooManyBoxes given) = given
 given_of (is.OutOfMemory given bound) = given
+given_of (is.Replayed (verdict.Solved pushes moves)) = Some (record { pushes = pushes; moves = moves })
 given_of judgement = None
 
 -- the solution that was found
@@ -140,6 +143,8 @@ limit_of limit judgement = None
 -- the kinds that totals count together
 abbrev pub is_in : Group → Kind → Bool
 is_in group.Optimal kind.Optimal = true
+is_in group.Solved kind.Solved = true
+is_in group.NotSolved kind = nat_lt 0 (kind_status kind)
 is_in group.Unsolved kind.Unsolvable = true
 is_in group.Unsolved kind.NoneWithin = true
 is_in group.Beaten kind.Beaten = true
@@ -169,17 +174,22 @@ abbrev pub unsolved_words : Option ℕ → List ℕ
 unsolved_words None = codes "unsolvable"
 unsolved_words (Some most) = none_words (Some most)
 
--- how many levels there are of each group, with or without given solutions, as a line
+-- how many levels there are of a group
 abbrev pub counted : Group → List ℕ → List Kind → List ℕ
 counted group words kinds = decimal (count_of group kinds) ++ words
 
-abbrev pub totals_words : Bool → Option ℕ → List Kind → List ℕ
-totals_words true cap kinds =
+-- the line of totals: of levels without given solutions; of given ones that are proved, or only replayed
+abbrev pub totals_words : Bool → Bool → Option ℕ → List Kind → List ℕ
+totals_words true true cap kinds =
     decimal (length kinds) ++ codes " levels, " ++ counted group.Optimal (codes " optimal, ") kinds ++
     counted group.Beaten (codes " beaten, ") kinds ++ counted group.Open (codes " open, ") kinds ++
     counted group.NotJudged (codes " not judged, ") kinds ++
     counted group.Missing (codes " without a solution\n") kinds
-totals_words false cap kinds =
+totals_words true false cap kinds =
+    decimal (length kinds) ++ codes " levels, " ++ counted group.Solved (codes " solved, ") kinds ++
+    counted group.NotSolved (codes " not solved, ") kinds ++
+    counted group.Missing (codes " without a solution\n") kinds
+totals_words false proves cap kinds =
     decimal (length kinds) ++ codes " levels, " ++ counted group.Optimal (codes " optimal, ") kinds ++
     counted group.Unsolved (codes " ") kinds ++ unsolved_words cap ++ codes ", " ++
     counted group.Open (codes " open, ") kinds ++ counted group.NotJudged (codes " not judged\n") kinds

@@ -25,12 +25,6 @@ abbrev pub letters_between : List ℕ → List ℕ → Option Solution → List 
 letters_between before after None = []
 letters_between before after (Some s) = before ++ bytes_of s.letters ++ after
 
-abbrev pub letters_of : Judgement → List ℕ
-letters_of judgement = letters_between [] [] (found_of judgement)
-
-abbrev pub letters_after : Judgement → List ℕ
-letters_after judgement = letters_between (codes "  ") [] (found_of judgement)
-
 abbrev pub letters_line : Judgement → List ℕ
 letters_line judgement = letters_between [] (10 ∷ []) (found_of judgement)
 
@@ -71,14 +65,14 @@ row set n listed judgement =
     (decimal n ++ number_cell (Some listed.first_line) ++ number_cell (boxes_of listed.board) ++
     word_cell (kind_word (kind_of judgement)) ++ word_cell (proved_of judgement) ++ counts_cells (given_of judgement) ++
     counts_cells (best_of judgement) ++ number_cell (bound_of judgement) ++ number_cell (limit_of set.limit judgement) ++
-    name_cell listed.name ++ word_cell (letters_of judgement))
+    name_cell listed.name ++ word_cell (letters_between [] [] (found_of judgement)))
 
 -- the line of level n: nothing if no solution is given, a row in a table, else its number and its words
 abbrev pub level_line : Bool → Settings → ℕ → Listed → Judgement → List ℕ
 level_line table set n listed is.Missing = []
 level_line true set n listed judgement = row set n listed judgement
 level_line false set n listed judgement =
-    line (decimal n ++ codes " " ++ judgement_words set judgement ++ letters_after judgement)
+    line (decimal n ++ codes " " ++ judgement_words set judgement ++ letters_between (codes "  ") [] (found_of judgement))
 
 -- the first line of a report on levels: a table has the names of its columns
 abbrev pub table_head : List ℕ

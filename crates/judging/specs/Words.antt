@@ -84,10 +84,13 @@ known_words limit known (Some given) (Some s) =
     codes "not optimal " ++ counts_words given.pushes given.moves ++ codes ", " ++
     found_words limit (s.counts.pushes == given.pushes) known.claim known.at_least s.counts
 
--- a search that ran out of memory; without a given solution, with the bound on the pushes of every solution
+-- a search that ran out of memory, with the bound on the pushes of every solution, and the given solution
 abbrev pub starved_words : Option Counts → Option ℕ → List ℕ
 starved_words None (Some bound) = codes "out of memory, at least " ++ decimal bound ++ codes " pushes"
-starved_words given bound = codes "out of memory"
+starved_words (Some given) (Some bound) =
+    codes "out of memory, at least " ++ decimal bound ++ codes " pushes, given " ++
+    counts_words given.pushes given.moves
+starved_words given None = codes "out of memory"
 
 -- a judgement
 abbrev pub judgement_words : Settings → Judgement → List ℕ
@@ -96,7 +99,7 @@ judgement_words set is.NoneWithin = none_words set.cap
 judgement_words set is.Unsolvable = codes "unsolvable"
 judgement_words set (is.TooManyBoxes given) = codes "too many boxes"
 judgement_words set (is.OutOfMemory given bound) = starved_words given bound
-judgement_words set (is.Failing verdict) = verdict_words verdict
+judgement_words set (is.Replayed verdict) = verdict_words verdict
 judgement_words set (is.BadText fault) = text_fault_words fault
 judgement_words set (is.Faulty fault) = fault_words fault
 judgement_words set is.CannotRead = codes "cannot read"

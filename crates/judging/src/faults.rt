@@ -1,4 +1,7 @@
 //! The words of faults and verdicts.
+ghost use Rattle.std.specs.Prelude.{Some};
+ghost use Rattle.judging.specs.Words.{counts_words, fault_words, text_fault_words, verdict_words};
+
 use crate::judgement::Counts;
 use crate::text::Number;
 use grid::LevelFault;
@@ -6,9 +9,6 @@ use lurd::{LurdFault, Verdict};
 use std::fmt;
 
 impl fmt::Display for Counts {
-    ghost use Rattle.std.specs.Prelude.{Some};
-    ghost use Rattle.judging.specs.Words.{counts_words};
-
     ghost output = { λ counts. Some (counts_words counts.pushes counts.moves) };
 
     fn fmt<W: fmt::Write>(&self, f: &mut fmt::Formatter<W>) -> fmt::Result {
@@ -23,9 +23,6 @@ impl fmt::Display for Counts {
 pub struct FaultWords(pub LevelFault);
 
 impl fmt::Display for FaultWords {
-    ghost use Rattle.std.specs.Prelude.{Some};
-    ghost use Rattle.judging.specs.Words.{fault_words};
-
     ghost output = { λ it. Some (fault_words it.0) };
 
     fn fmt<W: fmt::Write>(&self, f: &mut fmt::Formatter<W>) -> fmt::Result {
@@ -36,9 +33,7 @@ impl fmt::Display for FaultWords {
             LevelFault::TwoPlayers => f.write_str("fault 4 TwoPlayers"),
             LevelFault::NoBox => f.write_str("fault 5 NoBox"),
             LevelFault::Counts { boxes, goals } => {
-                let boxes = Number(boxes);
-                let goals = Number(goals);
-                write!(f, "fault 6 Counts {boxes} {goals}")
+                write!(f, "fault 6 Counts {} {}", Number(boxes), Number(goals))
             }
             LevelFault::Open => f.write_str("fault 7 Open"),
             LevelFault::OutOfMemory => f.write_str("fault 8 OutOfMemory"),
@@ -51,21 +46,12 @@ impl fmt::Display for FaultWords {
 pub struct TextFaultWords(pub LurdFault);
 
 impl fmt::Display for TextFaultWords {
-    ghost use Rattle.std.specs.Prelude.{Some};
-    ghost use Rattle.judging.specs.Words.{text_fault_words};
-
     ghost output = { λ it. Some (text_fault_words it.0) };
 
     fn fmt<W: fmt::Write>(&self, f: &mut fmt::Formatter<W>) -> fmt::Result {
         match self.0 {
-            LurdFault::BadByte { at } => {
-                let at = Number(at);
-                write!(f, "bad byte at {at}")
-            }
-            LurdFault::BadCount { at } => {
-                let at = Number(at);
-                write!(f, "bad count at {at}")
-            }
+            LurdFault::BadByte { at } => write!(f, "bad byte at {}", Number(at)),
+            LurdFault::BadCount { at } => write!(f, "bad count at {}", Number(at)),
             LurdFault::TooManyMoves => f.write_str("too many moves"),
             LurdFault::OutOfMemory => f.write_str("out of memory"),
         }
@@ -77,29 +63,16 @@ impl fmt::Display for TextFaultWords {
 pub struct VerdictWords(pub Verdict);
 
 impl fmt::Display for VerdictWords {
-    ghost use Rattle.std.specs.Prelude.{Some};
-    ghost use Rattle.judging.specs.Words.{verdict_words};
-
     ghost output = { λ it. Some (verdict_words it.0) };
 
     fn fmt<W: fmt::Write>(&self, f: &mut fmt::Formatter<W>) -> fmt::Result {
         match self.0 {
-            Verdict::Solved { pushes, moves } => {
-                let counts = Counts { pushes, moves };
-                write!(f, "solved {counts}")
-            }
+            Verdict::Solved { pushes, moves } => write!(f, "solved {}", Counts { pushes, moves }),
             Verdict::Unsolved { pushes, moves } => {
-                let counts = Counts { pushes, moves };
-                write!(f, "unsolved {counts}")
+                write!(f, "unsolved {}", Counts { pushes, moves })
             }
-            Verdict::Blocked { at } => {
-                let at = Number(at);
-                write!(f, "blocked at {at}")
-            }
-            Verdict::WrongCase { at } => {
-                let at = Number(at);
-                write!(f, "wrong case at {at}")
-            }
+            Verdict::Blocked { at } => write!(f, "blocked at {}", Number(at)),
+            Verdict::WrongCase { at } => write!(f, "wrong case at {}", Number(at)),
         }
     }
 }

@@ -70,8 +70,8 @@ pub enum Judgement {
         given: Option<Counts>,
         at_least: Option<usize>,
     },
-    /// The given solution does not solve the level.
-    Failing(Verdict),
+    /// The given solution was replayed, and nothing was searched.
+    Replayed(Verdict),
     /// The given solution is no text of moves.
     BadText(LurdFault),
     /// The board is no level.
@@ -150,9 +150,10 @@ impl Judgement {
             Judgement::Unsolvable => Kind::Unsolvable,
             Judgement::TooManyBoxes(_) => Kind::TooManyBoxes,
             Judgement::OutOfMemory { .. } => Kind::OutOfMemory,
-            Judgement::Failing(Verdict::Blocked { .. }) => Kind::Blocked,
-            Judgement::Failing(Verdict::WrongCase { .. }) => Kind::WrongCase,
-            Judgement::Failing(_) => Kind::Unsolved,
+            Judgement::Replayed(Verdict::Solved { .. }) => Kind::Solved,
+            Judgement::Replayed(Verdict::Unsolved { .. }) => Kind::Unsolved,
+            Judgement::Replayed(Verdict::Blocked { .. }) => Kind::Blocked,
+            Judgement::Replayed(Verdict::WrongCase { .. }) => Kind::WrongCase,
             Judgement::BadText(_) => Kind::BadText,
             Judgement::Faulty(_) => Kind::Fault,
             Judgement::CannotRead => Kind::CannotRead,
@@ -168,6 +169,10 @@ impl Judgement {
             Judgement::Searched(known) => known.given,
             Judgement::TooManyBoxes(given) => *given,
             Judgement::OutOfMemory { given, .. } => *given,
+            Judgement::Replayed(Verdict::Solved { pushes, moves }) => Some(Counts {
+                pushes: *pushes,
+                moves: *moves,
+            }),
             _ => None,
         }
     }

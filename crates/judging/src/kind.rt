@@ -16,6 +16,8 @@ pub enum Kind {
     Open,
     Unsolvable,
     NoneWithin,
+    /// The given solution solves the level, and nothing was searched.
+    Solved,
     /// The given solution does not end with all boxes on goals.
     Unsolved,
     Blocked,
@@ -33,6 +35,8 @@ pub enum Kind {
 #[derive(Clone, Copy)]
 pub enum Group {
     Optimal,
+    Solved,
+    NotSolved,
     Unsolved,
     Beaten,
     Open,
@@ -46,7 +50,7 @@ impl Kind {
         ensures { result ≡ kind_status self }
     {
         match self {
-            Kind::Optimal | Kind::Missing => 0,
+            Kind::Optimal | Kind::Solved | Kind::Missing => 0,
             Kind::CannotRead => 3,
             Kind::OptimalPushes | Kind::Found | Kind::Open => 4,
             Kind::OutOfMemory => 5,
@@ -65,6 +69,7 @@ impl Kind {
             Kind::Open => b"open",
             Kind::Unsolvable => b"unsolvable",
             Kind::NoneWithin => b"none_within",
+            Kind::Solved => b"solved",
             Kind::Unsolved => b"unsolved",
             Kind::Blocked => b"blocked",
             Kind::WrongCase => b"wrong_case",
@@ -83,6 +88,8 @@ impl Kind {
     {
         match group {
             Group::Optimal => matches!(self, Kind::Optimal),
+            Group::Solved => matches!(self, Kind::Solved),
+            Group::NotSolved => self.status() > 0,
             Group::Unsolved => matches!(self, Kind::Unsolvable | Kind::NoneWithin),
             Group::Beaten => matches!(self, Kind::Beaten),
             Group::Open => matches!(

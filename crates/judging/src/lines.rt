@@ -1,6 +1,7 @@
 //! The line of a level in a report on several.
-ghost use Rattle.std.specs.Prelude.{◌≡◌, ◌++◌, Bool, OnOk, codes, decimal};
-ghost use Rattle.judging.specs.Table.{head_of, letters_after, letters_line, level_line};
+ghost use Rattle.std.specs.Prelude.{◌≡◌, ◌++◌, Bool, OnOk, [], codes, decimal};
+ghost use Rattle.judging.specs.Kinds.{found_of};
+ghost use Rattle.judging.specs.Table.{head_of, letters_between, letters_line, level_line};
 ghost use Rattle.judging.specs.inside.Entries.{entry_listed};
 ghost use Rattle.judging.specs.Words.{judgement_words, line};
 
@@ -22,9 +23,14 @@ pub fn head_of(table: bool) -> &'static [u8]
     }
 }
 
-/// Appends the solution that was found after two spaces, if there is one.
-fn put_letters_after(text: &mut Text, judgement: &Judgement) -> Result<(), AllocError>
-    ensures { OnOk result (text.new ≡ text.old ++ letters_after judgement.now) }
+/// Appends the letters of the solution that was found between two texts; nothing if there is none.
+pub(crate) fn put_letters_between(
+    text: &mut Text,
+    before: &[u8],
+    after: &[u8],
+    judgement: &Judgement,
+) -> Result<(), AllocError>
+    ensures { OnOk result (text.new ≡ text.old ++ letters_between before.now after.now (found_of judgement.now)) }
 {
     match judgement {
         Judgement::Searched(
@@ -33,8 +39,9 @@ fn put_letters_after(text: &mut Text, judgement: &Judgement) -> Result<(), Alloc
                 ..
             },
         ) => {
-            text.put(b"  ")?;
-            text.put_letters(&found.letters)
+            text.put(before)?;
+            text.put_letters(&found.letters)?;
+            text.put(after)
         }
         _ => Ok(()),
     }
@@ -44,18 +51,7 @@ fn put_letters_after(text: &mut Text, judgement: &Judgement) -> Result<(), Alloc
 pub fn put_letters_line(text: &mut Text, judgement: &Judgement) -> Result<(), AllocError>
     ensures { OnOk result (text.new ≡ text.old ++ letters_line judgement.now) }
 {
-    match judgement {
-        Judgement::Searched(
-            Known {
-                found: Some(found),
-                ..
-            },
-        ) => {
-            text.put_letters(&found.letters)?;
-            text.put(b"\n")
-        }
-        _ => Ok(()),
-    }
+    put_letters_between(text, b"", b"\n", judgement)
 }
 
 /// Appends a judgement in words.
@@ -66,10 +62,7 @@ pub fn put_judgement(
 ) -> Result<(), AllocError>
     ensures { OnOk result (text.new ≡ text.old ++ judgement_words settings judgement.now) }
 {
-    text.show(&JudgementWords {
-        settings,
-        judgement,
-    })
+    text.show(&JudgementWords(settings, judgement))
 }
 
 /// Appends the line of a level in words.
@@ -80,12 +73,13 @@ fn put_words(
     judgement: &Judgement,
 ) -> Result<(), AllocError>
     ensures { OnOk result (text.new ≡ text.old ++
-        line (decimal number ++ codes " " ++ judgement_words settings judgement.now ++ letters_after judgement.now)) }
+        line (decimal number ++ codes " " ++ judgement_words settings judgement.now ++
+        letters_between (codes "  ") [] (found_of judgement.now))) }
 {
     text.put_number(number as usize)?;
     text.put(b" ")?;
     put_judgement(text, settings, judgement)?;
-    put_letters_after(text, judgement)?;
+    put_letters_between(text, b"  ", b"", judgement)?;
     text.put(b"\n")
 }
 

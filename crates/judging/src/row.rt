@@ -1,12 +1,13 @@
 //! The row of a level in a table.
-ghost use Rattle.std.specs.Prelude.{◌≡◌, ◌++◌, Some, OnOk, Result, cond, codes, decimal, flat_map, ◌==◌};
+ghost use Rattle.std.specs.Prelude.{◌≡◌, ◌==◌, ◌++◌, [], Some, OnOk, Result, decimal, flat_map};
 ghost use Rattle.std.specs.List.{list_any};
-ghost use Rattle.judging.specs.Kinds.{kind_of, kind_word, proved_of};
-ghost use Rattle.judging.specs.Table.{boxes_of, cell_bytes, counts_cells, letters_of, name_cell, number_cell};
+ghost use Rattle.judging.specs.Kinds.{found_of, kind_of, kind_word, proved_of};
+ghost use Rattle.judging.specs.Table.{boxes_of, cell_bytes, counts_cells, letters_between, name_cell, number_cell};
+ghost use Rattle.judging.specs.Table.{quote_of, row, word_cell};
 ghost use Rattle.judging.specs.inside.Entries.{entry_listed};
-ghost use Rattle.judging.specs.Table.{row, word_cell};
 
-use crate::judgement::{Counts, Judgement, Known, Settings};
+use crate::judgement::{Counts, Judgement, Settings};
+use crate::lines::put_letters_between;
 use crate::text::Text;
 use grid::{Level, LevelFault};
 use std::alloc::AllocError;
@@ -97,7 +98,7 @@ fn has_quote(name: &[u8]) -> bool
 
 /// The quote around a name that has one.
 fn quote_of(name: &[u8]) -> &'static [u8]
-    ensures { result.now ≡ cond (list_any (λ b. b == 34) name.now) (codes "\"") (codes "") }
+    ensures { result.now ≡ quote_of name.now }
 {
     if has_quote(name) { b"\"" } else { b"" }
 }
@@ -114,18 +115,10 @@ fn put_name(text: &mut Text, name: &[u8]) -> Result<(), AllocError>
 
 /// Appends the letters of the solution that was found.
 fn put_solution(text: &mut Text, judgement: &Judgement) -> Result<(), AllocError>
-    ensures { OnOk result (text.new ≡ text.old ++ word_cell (letters_of judgement.now)) }
+    ensures { OnOk result (text.new ≡ text.old ++ word_cell (letters_between [] [] (found_of judgement.now))) }
 {
     text.put(b"\t")?;
-    match judgement {
-        Judgement::Searched(
-            Known {
-                found: Some(found),
-                ..
-            },
-        ) => text.put_letters(&found.letters),
-        _ => Ok(()),
-    }
+    put_letters_between(text, b"", b"", judgement)
 }
 
 /// Appends the row of a level.

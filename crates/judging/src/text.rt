@@ -18,8 +18,6 @@ const LEAST_ROOM: usize = 64;
 pub struct Number(pub usize);
 
 impl fmt::Display for Number {
-    ghost use Rattle.std.specs.Prelude.{Some, decimal};
-
     ghost output = { λ number. Some (decimal number.0) };
 
     fn fmt<W: fmt::Write>(&self, f: &mut fmt::Formatter<W>) -> fmt::Result {

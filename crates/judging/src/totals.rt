@@ -2,7 +2,6 @@
 ghost use Rattle.std.specs.Prelude.{◌≡◌, ◌==◌, ◌++◌, OnOk, false, true};
 ghost use Rattle.std.specs.List.{list_any};
 ghost use Rattle.judging.specs.Kinds.{all_missing, count_of, counted, kind_status, totals_words, unsolved_words, worst_status};
-ghost use Rattle.judging.specs.Words.{none_words};
 
 use crate::kind::{Group, Kind};
 use crate::text::Text;
@@ -63,26 +62,19 @@ fn put_counted(
     text.put(words)
 }
 
-/// Appends that no solution has as few pushes as a cap.
-fn put_none(text: &mut Text, cap: Option<u32>) -> Result<(), AllocError>
-    ensures { OnOk result (text.new ≡ text.old ++ none_words cap) }
-{
-    text.show(&NoneWithin(cap))
-}
-
 /// Appends how levels without a solution are counted: under a cap, those without a solution within it.
 fn put_unsolved(text: &mut Text, cap: Option<u32>) -> Result<(), AllocError>
     ensures { OnOk result (text.new ≡ text.old ++ unsolved_words cap) }
 {
     match cap {
         None => text.put(b"unsolvable"),
-        Some(_) => put_none(text, cap),
+        Some(_) => text.show(&NoneWithin(cap)),
     }
 }
 
 /// Appends the totals of levels without given solutions.
 fn put_best_totals(text: &mut Text, cap: Option<u32>, kinds: &[Kind]) -> Result<(), AllocError>
-    ensures { OnOk result (text.new ≡ text.old ++ totals_words false cap kinds.now) }
+    ensures { OnOk result (text.new ≡ text.old ++ totals_words false true cap kinds.now) }
 {
     text.put_number(kinds.len())?;
     text.put(b" levels, ")?;
@@ -94,9 +86,9 @@ fn put_best_totals(text: &mut Text, cap: Option<u32>, kinds: &[Kind]) -> Result<
     put_counted(text, Group::NotJudged, b" not judged\n", kinds)
 }
 
-/// Appends the totals of levels with given solutions.
-fn put_given_totals(text: &mut Text, cap: Option<u32>, kinds: &[Kind]) -> Result<(), AllocError>
-    ensures { OnOk result (text.new ≡ text.old ++ totals_words true cap kinds.now) }
+/// Appends the totals of levels whose given solutions are proved.
+fn put_proved_totals(text: &mut Text, cap: Option<u32>, kinds: &[Kind]) -> Result<(), AllocError>
+    ensures { OnOk result (text.new ≡ text.old ++ totals_words true true cap kinds.now) }
 {
     text.put_number(kinds.len())?;
     text.put(b" levels, ")?;
@@ -107,18 +99,31 @@ fn put_given_totals(text: &mut Text, cap: Option<u32>, kinds: &[Kind]) -> Result
     put_counted(text, Group::Missing, b" without a solution\n", kinds)
 }
 
-/// Appends how many levels there are of each group, with or without given solutions, as a line.
+/// Appends the totals of levels whose given solutions are replayed.
+fn put_replayed_totals(text: &mut Text, cap: Option<u32>, kinds: &[Kind]) -> Result<(), AllocError>
+    ensures { OnOk result (text.new ≡ text.old ++ totals_words true false cap kinds.now) }
+{
+    text.put_number(kinds.len())?;
+    text.put(b" levels, ")?;
+    put_counted(text, Group::Solved, b" solved, ", kinds)?;
+    put_counted(text, Group::NotSolved, b" not solved, ", kinds)?;
+    put_counted(text, Group::Missing, b" without a solution\n", kinds)
+}
+
+/// Appends how many levels there are of each group as a line: of levels without given solutions, or of given ones that are
+/// proved or only replayed.
 pub fn put_totals(
     text: &mut Text,
     given: bool,
+    proves: bool,
     cap: Option<u32>,
     kinds: &[Kind],
 ) -> Result<(), AllocError>
-    ensures { OnOk result (text.new ≡ text.old ++ totals_words given cap kinds.now) }
+    ensures { OnOk result (text.new ≡ text.old ++ totals_words given proves cap kinds.now) }
 {
-    if given {
-        put_given_totals(text, cap, kinds)
-    } else {
-        put_best_totals(text, cap, kinds)
+    match (given, proves) {
+        (true, true) => put_proved_totals(text, cap, kinds),
+        (true, false) => put_replayed_totals(text, cap, kinds),
+        (false, _) => put_best_totals(text, cap, kinds),
     }
 }

@@ -23,8 +23,8 @@ pub(crate) struct Pick {
     pub(crate) is_done: bool,
 }
 
-/// A workspace with the picks of a round that are done in it. A lane's findings depend on its picks and on those of
-/// earlier rounds. The picks that it gets do not depend on the number of workers, so its findings do not either.
+/// A workspace with the picks of a round that are done in it. A lane's findings depend on its picks and on what was found
+/// before the round. The picks that it gets do not depend on the number of workers, so its findings do not either.
 #[derive(Drop)]
 pub(crate) struct Lane<'a> {
     pub(crate) workspace: Workspace<'a>,

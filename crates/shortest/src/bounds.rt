@@ -97,6 +97,17 @@ impl<'a> Bounds<'a> {
         self.regions.distances()
     }
 
+    /// A lower bound on the pushes that the state needs, the greatest number if it is lost or no state of the level.
+    pub(crate) fn least(&self, state: &Position, matching: &mut Matching) -> u32 {
+        if !state.fits(self.level) {
+            return u32::MAX;
+        }
+        match self.regions.lower(state, matching) {
+            Some(low) => u32::try_from(low).unwrap_or(u32::MAX),
+            None => u32::MAX,
+        }
+    }
+
     /// Whether the bounds allow a play from the state that ends solved with at most `left` pushes.
     pub(crate) fn allow(&self, state: &Position, left: u32, matching: &mut Matching) -> bool
         requires { FitsLevel self.now.board state.now }

@@ -1,5 +1,5 @@
 //! Replaces a solution by better ones that a search near it finds.
-ghost use Rattle.std.specs.Prelude.{◌≡◌, ◌<◌, ◌≤◌, ◌⊎◌, IsTrue, OnOk, length};
+ghost use Rattle.std.specs.Prelude.{◌≡◌, ◌<◌, ◌≤◌, ◌⊎◌, IfOk, IsTrue, OnOk, length};
 ghost use Rattle.grid.specs.Lawful.{box_count};
 ghost use Rattle.grid.specs.States.{FitsLevel, IsScene};
 ghost use Rattle.shortest.specs.Improving.{IsNoWorse};
@@ -41,7 +41,7 @@ const MAX_SEARCHES: usize = 1_000;
 const MAX_TURNS: usize = 10;
 
 /// On a grid with this many squares a state takes twice as long as on a small one.
-const SQUARES_A_STATE: usize = 1_000;
+pub(crate) const SQUARES_A_STATE: usize = 1_000;
 
 /// Replaces a solution of the level by a better one, if it finds one: with fewer pushes, or with as many pushes and
 /// fewer moves. It searches states that differ from those of the solution in one box and, for fewer pushes, in two. It
@@ -85,13 +85,7 @@ fn improve_over(
     requires few { box_count level.now ≤ MAX_BOXES }
     ensures { IsNoWorse level.now moves.old moves.new }
 {
-    let bounds = Bounds::of(alloc, level, 0)?;
-    let memory = Memory::new(alloc, problem)?;
-    let mut finder = Finder {
-        start,
-        bounds,
-        memory,
-    };
+    let mut finder = Finder::of(alloc, level, problem, start)?;
     let end = improve_with(alloc, level, moves, aim, states, &mut finder);
     drop(finder);
     end
@@ -116,12 +110,35 @@ fn improve_with(
     }
 }
 
-/// What searches near solutions of a level share: its start, its bounds and memory.
+/// What the searches by layers of a level share: its start, its bounds and memory.
 #[derive(Drop)]
 pub(crate) struct Finder<'a> {
-    start: Position,
-    bounds: Bounds<'a>,
-    memory: Memory<'a>,
+    pub(crate) start: Position,
+    pub(crate) bounds: Bounds<'a>,
+    pub(crate) memory: Memory<'a>,
+}
+
+impl<'a> Finder<'a> {
+    /// Begins at the start of the problem's level. Fails only if out of memory.
+    pub(crate) fn of(
+        alloc: Global,
+        level: &'a Level,
+        problem: &'a Problem,
+        start: Position,
+    ) -> Result<Finder<'a>, AllocError>
+        requires problem { problem.now.board ≡ level.now }
+        requires fits { FitsLevel level.now start }
+        requires few { box_count level.now ≤ MAX_BOXES }
+        ensures { IfOk result (λ finder. IsFinderFor level.now finder) }
+    {
+        let bounds = Bounds::of(alloc, level, 0)?;
+        let memory = Memory::new(alloc, problem)?;
+        Ok(Finder {
+            start,
+            bounds,
+            memory,
+        })
+    }
 }
 
 // Saves pushes of a solution with one box elsewhere, then with two, and then moves, again until the pushes stay.
@@ -278,8 +295,8 @@ fn take_if_some(
     take_if_better(alloc, level, moves, candidate)
 }
 
-// The moves of the play that makes these pushes, each after a shortest walk, if they are possible.
-fn moves_by(alloc: Global, level: &Level, pushes: &[Push]) -> Result<Moves, AllocError> {
+/// The moves of the play that makes these pushes, each after a shortest walk, if they are possible.
+pub(crate) fn moves_by(alloc: Global, level: &Level, pushes: &[Push]) -> Result<Moves, AllocError> {
     let mut scratch = Scratch::new(alloc, level)?;
     let moves = moves_in(alloc, level, pushes, &mut scratch);
     drop(scratch);

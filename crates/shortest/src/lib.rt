@@ -11,14 +11,17 @@
 //! 3. From the start on it reads the pushes of the least sums.
 //!
 //! [`improve`] takes less time: it saves moves of a given solution, piece by piece, and does not promise the fewest.
+//! [`first_solution`] looks for a solution of a level that a search left undecided, and promises none.
 #![tactic(auto)]
 
 mod aim;
+mod beam;
 mod bounds;
 mod improving;
 mod listing;
 mod near;
 mod outcome;
+mod ranks;
 mod reading;
 mod rests;
 mod searching;
@@ -27,6 +30,7 @@ mod trail;
 mod ways;
 
 pub use aim::Aim;
+pub use beam::first_solution;
 pub use improving::improve;
 pub use outcome::MovesOutcome;
 pub use searching::search_moves;

@@ -1,9 +1,9 @@
-//! Searches the states near a solution for a better one.
+//! Searches by layers, near a solution for a better one, or for a first one.
 //!
-//! The search goes by layers: layer k has states after k pushes. It keeps the fewest moves that it found to each. A
-//! state is listed if few of its boxes are elsewhere than in some position of the solution round the layer, and if the
-//! bounds allow its pushes. The states of a layer with the best ranks are expanded, and always that of the solution.
-//! This is a guess: contracts say only that the calls are safe.
+//! Layer k has states after k pushes. The search lists a state if the bounds allow its pushes, keeps the fewest moves
+//! that it found to it, and expands the states of a layer with the best ranks. Near a solution it lists only states of
+//! which few boxes are elsewhere than in some position of the solution round the layer, and always expands that of the
+//! solution. This is a guess: contracts say only that the calls are safe.
 ghost use Rattle.std.specs.Prelude.{◌≡◌, ◌≤◌, IfOk, IfSome, Some};
 ghost use Rattle.grid.specs.Lawful.{box_count};
 ghost use Rattle.grid.specs.States.{FitsLevel};
@@ -15,24 +15,15 @@ ghost use Rattle.shortest.specs.inside.Nearby.{IsListFor, IsMemoryFor};
 use crate::aim::Aim;
 use crate::bounds::Bounds;
 use crate::listing::{Workspace, state_after};
+use crate::ranks::{allowed_of, label_of, pushes_to_last, rank_of, ranks_of, solved_in};
 use crate::states::{Reached, reached_at};
-use crate::trail::{Nearness, Trail, Vicinity};
+use crate::trail::{Trail, Vicinity};
 use area::Walks;
 use grid::{Level, MAX_BOXES, Position, Push};
 use prices::Slack;
 use std::alloc::{AllocError, Global};
 use store::{Label, Parent, Visited};
 use successors::Problem;
-
-/// The rank of a state rises by this much with each box that is elsewhere, if moves are counted.
-const DISPLACED_MOVES: u32 = 10;
-
-/// The rank of a state rises by this much with each box that is elsewhere and with each push that is left, if pushes
-/// are counted: usually more than the difference between the moves of two states with equal pushes.
-const RANK_PUSHES: u32 = 1_000;
-
-/// More than the moves of any solution.
-const RANK_BASE: u32 = 1 << 21;
 
 /// What a search may list.
 #[derive(Clone, Copy)]
@@ -74,39 +65,22 @@ impl<'a> Memory<'a> {
     }
 }
 
-/// A layer: what it may list, the positions of the solution round it, the pushes that are left, and the place of its
-/// first state.
+/// A search: its solution, what it may list, the positions of the solution round the layer that it lists, the pushes of
+/// that layer and those that are left, the place of the first state before these pushes, and whether the width kept it
+/// from expanding some states.
 #[derive(Drop)]
-struct Layer<'a> {
+pub(crate) struct Front<'a> {
+    trail: &'a Trail,
     form: Form,
-    vicinity: &'a Vicinity,
+    vicinity: Vicinity,
+    pushes: u32,
     left: u32,
     begin: usize,
-}
-
-/// What a search has to know of the layer that it expands next: the positions of the solution round it, and the ranks
-/// and places of the states to expand; the number of states that are expanded up to that layer; and whether the width
-/// kept the search from expanding some.
-#[derive(Drop)]
-pub(crate) struct Front {
-    vicinity: Vicinity,
-    ranked: Vec<(u32, usize)>,
-    expanded: usize,
     is_cut: bool,
 }
 
-impl Front {
-    // Goes on to a layer with these ranks and places: as many of the first as the form allows.
-    fn take(&mut self, ranked: Vec<(u32, usize)>, form: Form) {
-        self.is_cut |= ranked.len() > form.width;
-        self.ranked = ranked;
-        let left = form.states.saturating_sub(self.expanded);
-        self.ranked.truncate(left.min(form.width));
-        self.expanded = self.expanded.saturating_add(self.ranked.len());
-    }
-}
-
-/// Searches for a solution with at most as many pushes as the bounds say. Fails only if out of memory.
+/// Searches for a solution with at most as many pushes as the bounds say, near that of the trail if it is not empty.
+/// Fails only if out of memory.
 pub(crate) fn search_near(
     alloc: Global,
     bounds: &Bounds<'_>,
@@ -121,9 +95,9 @@ pub(crate) fn search_near(
     ensures ready { IsMemoryFor bounds.now.board memory.new }
 {
     let level = bounds.level();
-    let mut listed = Visited::of(alloc, level.boxes(), level.squares());
-    let find = find_in(alloc, bounds, start, trail, form, &mut listed, memory);
-    drop(listed);
+    let mut kept = Visited::of(alloc, level.boxes(), level.squares());
+    let find = find_in(alloc, bounds, start, trail, form, &mut kept, memory);
+    drop(kept);
     find
 }
 
@@ -134,111 +108,163 @@ fn find_in(
     start: &Position,
     trail: &Trail,
     form: Form,
-    listed: &mut Visited,
+    kept: &mut Visited,
     memory: &mut Memory<'_>,
 ) -> Result<Find, AllocError>
     requires fits { FitsLevel bounds.now.board start.now }
+    requires few { box_count bounds.now.board ≤ MAX_BOXES }
     requires ready { IsMemoryFor bounds.now.board memory.old }
-    requires list { IsListFor bounds.now.board listed.old }
+    requires list { IsListFor bounds.now.board kept.old }
     ensures ready { IsMemoryFor bounds.now.board memory.new }
 {
-    let _ = listed.enter(start, label_of(0, 0, None))?;
+    let _ = kept.enter(start, label_of(0, 0, None))?;
     let mut front = Front {
+        trail,
+        form,
         vicinity: Vicinity::of(alloc, bounds.level(), trail)?,
-        ranked: vec![in alloc; (0, 0); 1]?,
-        expanded: 1,
+        pushes: 0,
+        left: bounds.cap(),
+        begin: 0,
         is_cut: false,
     };
-    let end = list_layers(alloc, bounds, trail, form, &mut front, listed, memory);
-    let expanded = front.expanded;
+    let end = list_layers(alloc, bounds, &mut front, kept, memory);
     let is_cut = front.is_cut;
     drop(front);
     let pushes = match end? {
-        Some(place) => Some(pushes_to(alloc, listed, place)?),
-        None => None,
+        true => Some(pushes_to_last(alloc, kept)?),
+        false => None,
     };
     Ok(Find {
         pushes,
-        expanded,
+        expanded: kept.len(),
         is_cut,
     })
 }
 
-// Lists layer by layer, until a state is solved or the form allows no more. Returns the place of the solved state.
+// Lists layer by layer, until a state is solved or the form allows no more. Returns whether the last state that it kept
+// is solved.
 fn list_layers(
     alloc: Global,
     bounds: &Bounds<'_>,
-    trail: &Trail,
-    form: Form,
-    front: &mut Front,
-    listed: &mut Visited,
+    front: &mut Front<'_>,
+    kept: &mut Visited,
     memory: &mut Memory<'_>,
-) -> Result<Option<usize>, AllocError>
+) -> Result<bool, AllocError>
+    requires few { box_count bounds.now.board ≤ MAX_BOXES }
     requires ready { IsMemoryFor bounds.now.board memory.old }
-    requires list { IsListFor bounds.now.board listed.old }
+    requires list { IsListFor bounds.now.board kept.old }
     ensures ready { IsMemoryFor bounds.now.board memory.new }
 {
     for pushes in 1..=bounds.cap() {
-        let begin = listed.len();
-        list_layer(bounds, trail, form, pushes, front, listed, memory)?;
-        let solved = solved_since(bounds.level(), listed, begin);
-        if solved.is_some() || listed.len() == begin {
-            return Ok(solved);
+        front.pushes = pushes;
+        front.left = bounds.cap() - pushes;
+        let is_solved = list_layer(alloc, bounds, front, kept, memory)?;
+        if is_solved || kept.len() == front.begin {
+            return Ok(is_solved);
         }
-        let ranked = ranks_since(alloc, trail, pushes, begin, listed)?;
-        front.take(ranked, form);
     }
-    Ok(None)
+    Ok(false)
 }
 
-// Lists the layer of the states after this many pushes.
+// Lists a layer, and keeps the best of its states. Returns whether the last of them is solved.
 fn list_layer(
+    alloc: Global,
     bounds: &Bounds<'_>,
-    trail: &Trail,
-    form: Form,
-    pushes: u32,
-    front: &mut Front,
-    listed: &mut Visited,
+    front: &mut Front<'_>,
+    kept: &mut Visited,
     memory: &mut Memory<'_>,
-) -> Result<(), AllocError>
-    requires pushes { pushes ≤ bounds.now.cap }
+) -> Result<bool, AllocError>
+    requires few { box_count bounds.now.board ≤ MAX_BOXES }
     requires ready { IsMemoryFor bounds.now.board memory.old }
-    requires list { IsListFor bounds.now.board listed.old }
+    requires list { IsListFor bounds.now.board kept.old }
     ensures ready { IsMemoryFor bounds.now.board memory.new }
-    ensures list { IsListFor bounds.now.board listed.new }
+    ensures list { IsListFor bounds.now.board kept.new }
 {
-    front.vicinity.go_to(trail, pushes as usize);
-    let layer = Layer {
-        form,
-        vicinity: &front.vicinity,
-        left: bounds.cap() - pushes,
-        begin: listed.len(),
-    };
-    expand_all(bounds, &layer, front.ranked.as_slice(), listed, memory)
+    let level = bounds.level();
+    let mut listed = Visited::of(alloc, level.boxes(), level.squares());
+    front.vicinity.go_to(front.trail, front.pushes as usize);
+    let end = expand_all(bounds, front, kept, &mut listed, memory);
+    let is_solved = end.and(keep_best(alloc, bounds, front, &listed, kept, memory));
+    drop(listed);
+    is_solved
 }
 
-// Lists the states after those at some places.
+// Lists the states after those that were kept last.
 fn expand_all(
     bounds: &Bounds<'_>,
-    layer: &Layer<'_>,
-    ranked: &[(u32, usize)],
+    front: &Front<'_>,
+    kept: &Visited,
     listed: &mut Visited,
     memory: &mut Memory<'_>,
 ) -> Result<(), AllocError>
     requires ready { IsMemoryFor bounds.now.board memory.old }
+    requires before { IsListFor bounds.now.board kept.now }
     requires list { IsListFor bounds.now.board listed.old }
     ensures ready { IsMemoryFor bounds.now.board memory.new }
-    ensures list { IsListFor bounds.now.board listed.new }
 {
-    for row in ranked {
-        let (_, place) = *row;
-        if place >= listed.len() {
+    for place in front.begin..kept.len() {
+        let from = reached_at(kept, place);
+        if from.state.fits(bounds.level()) {
+            expand(bounds, front, &from, place, kept, listed, memory)?;
+        }
+    }
+    Ok(())
+}
+
+// Keeps the states with the best ranks, or the best solved one. Returns which of these.
+fn keep_best(
+    alloc: Global,
+    bounds: &Bounds<'_>,
+    front: &mut Front<'_>,
+    listed: &Visited,
+    kept: &mut Visited,
+    memory: &mut Memory<'_>,
+) -> Result<bool, AllocError>
+    requires ready { IsMemoryFor bounds.now.board memory.old }
+    requires list { IsListFor bounds.now.board kept.old }
+    ensures ready { IsMemoryFor bounds.now.board memory.new }
+    ensures list { IsListFor bounds.now.board kept.new }
+{
+    front.begin = kept.len();
+    if let Some(place) = solved_in(bounds.level(), listed) {
+        keep(bounds.level(), listed, place, kept)?;
+        return Ok(true);
+    }
+    let width = front.form.width;
+    let ranked = ranks_of(alloc, front.trail, front.pushes, listed)?;
+    let ranked = allowed_of(
+        alloc,
+        bounds,
+        front.trail,
+        front.left,
+        width,
+        ranked,
+        listed,
+        &mut memory.workspace.matching,
+    )?;
+    front.is_cut |= ranked.len() > width;
+    let most = front.form.states.min(kept.len().saturating_add(width));
+    for row in ranked.as_slice() {
+        if kept.len() >= most {
             break;
         }
-        let from = reached_at(listed, place);
-        if from.state.fits(bounds.level()) {
-            expand(bounds, layer, &from, place, listed, memory)?;
-        }
+        let (_, place) = *row;
+        keep(bounds.level(), listed, place, kept)?;
+    }
+    Ok(false)
+}
+
+// Keeps the listed state at a place.
+fn keep(level: &Level, listed: &Visited, place: usize, kept: &mut Visited) -> Result<(), AllocError>
+    requires { IsListFor level.now kept.old }
+    ensures { IsListFor level.now kept.new }
+{
+    if place >= listed.len() {
+        return Ok(());
+    }
+    let state = listed.position(place);
+    if state.fits(level) {
+        let _ = kept.enter(&state, listed.label(place))?;
     }
     Ok(())
 }
@@ -246,13 +272,15 @@ fn expand_all(
 // Lists the states after each push of the state at a place. The state's number of pushes is that of its moves.
 fn expand(
     bounds: &Bounds<'_>,
-    layer: &Layer<'_>,
+    front: &Front<'_>,
     from: &Reached,
     place: usize,
+    kept: &Visited,
     listed: &mut Visited,
     memory: &mut Memory<'_>,
 ) -> Result<(), AllocError>
     requires fits { FitsLevel bounds.now.board from.now.state }
+    requires before { IsListFor bounds.now.board kept.now }
     requires ready { IsMemoryFor bounds.now.board memory.old }
     requires list { IsListFor bounds.now.board listed.old }
     ensures ready { IsMemoryFor bounds.now.board memory.new }
@@ -266,24 +294,27 @@ fn expand(
     let slack = Slack::of(
         bounds.distances(),
         &from.state,
-        Some(layer.left),
+        Some(front.left),
         &memory.workspace.matching,
     );
     for index in 0..memory.workspace.expander.pushes().len() {
         let push = memory.workspace.expander.pushes()[index];
-        list_after(bounds, layer, from, place, push, &slack, listed, memory)?;
+        list_after(
+            bounds, front, from, place, push, &slack, kept, listed, memory,
+        )?;
     }
     Ok(())
 }
 
-// Lists the state after a push, if it is near the solution, the bounds allow it, and no layer before has it.
+// Lists the state after a push, if it is near the solution, the bounds allow it, and no layer before kept it.
 fn list_after(
     bounds: &Bounds<'_>,
-    layer: &Layer<'_>,
+    front: &Front<'_>,
     from: &Reached,
     place: usize,
     push: Push,
     slack: &Slack<'_>,
+    kept: &Visited,
     listed: &mut Visited,
     memory: &mut Memory<'_>,
 ) -> Result<(), AllocError>
@@ -292,7 +323,8 @@ fn list_after(
     requires found { HasPushesOf memory.old.workspace.expander from.now.state }
     requires possible { CanPush bounds.now.board from.now.state push }
     requires slack { (slack.now.board ≡ bounds.now.board) × (slack.now.scene ≡ from.now.state) ×
-        (slack.now.left ≡ Some layer.now.left) }
+        (slack.now.left ≡ Some front.now.left) }
+    requires before { IsListFor bounds.now.board kept.now }
     requires list { IsListFor bounds.now.board listed.old }
     ensures ready { IsMemoryFor bounds.now.board memory.new }
     ensures kept { memory.new.workspace.expander ≡ memory.old.workspace.expander }
@@ -302,15 +334,15 @@ fn list_after(
     let ahead = bounds.level().next(square, dir);
     let behind = bounds.level().next(square, dir.opposite());
     let boxes = from.state.boxes();
-    let Some(nearness) = layer
+    let Some(nearness) = front
         .vicinity
-        .nearness(boxes, square, ahead, layer.form.displaced)
+        .nearness(boxes, square, ahead, front.form.displaced)
     else {
         return Ok(());
     };
     let after = next_state(
         bounds,
-        layer,
+        front,
         from,
         Push { square, dir },
         slack,
@@ -323,7 +355,7 @@ fn list_after(
     let moves = from.pushes.saturating_add(walk).saturating_add(1);
     let rank = rank_of(
         bounds,
-        layer.form.aim,
+        front.form.aim,
         nearness,
         &after,
         &mut memory.workspace,
@@ -332,19 +364,14 @@ fn list_after(
         place: u32::try_from(place).unwrap_or(u32::MAX),
         push: Push { square, dir },
     };
-    enter_since(
-        layer.begin,
-        &after,
-        label_of(moves, rank, Some(parent)),
-        listed,
-    )
+    enter(kept, &after, label_of(moves, rank, Some(parent)), listed)
 }
 
 // The state after a push, if the bounds allow it. Where pushes are counted, the player is on the least square of his
 // area, so that states which differ in his walks alone are one.
 fn next_state(
     bounds: &Bounds<'_>,
-    layer: &Layer<'_>,
+    front: &Front<'_>,
     from: &Reached,
     push: Push,
     slack: &Slack<'_>,
@@ -355,126 +382,53 @@ fn next_state(
     requires found { HasPushesOf workspace.old.expander from.now.state }
     requires possible { CanPush bounds.now.board from.now.state push }
     requires slack { (slack.now.board ≡ bounds.now.board) × (slack.now.scene ≡ from.now.state) ×
-        (slack.now.left ≡ Some layer.now.left) }
+        (slack.now.left ≡ Some front.now.left) }
     ensures fits { IfSome result (FitsLevel bounds.now.board) }
     ensures kept { workspace.new.expander ≡ workspace.old.expander }
 {
     let Push { square, dir } = push;
-    let after = state_after(
-        bounds,
-        from,
-        layer.left,
-        Push { square, dir },
-        slack,
-        workspace,
-    );
-    if after.is_none() || layer.form.aim == Aim::FewerMoves {
-        return after;
+    if front.form.aim == Aim::FewerMoves {
+        return state_after(
+            bounds,
+            from,
+            front.left,
+            Push { square, dir },
+            slack,
+            workspace,
+        );
     }
-    workspace
+    if slack.never_helps(square, dir) {
+        return None;
+    }
+    let Some(after) = workspace
         .expander
         .try_push(&from.state, Push { square, dir })
+    else {
+        return None;
+    };
+    workspace.next_matching.copy_from(&workspace.matching);
+    let low = bounds
+        .distances()
+        .lower(&after, &mut workspace.next_matching);
+    if low > u64::from(front.left) {
+        return None;
+    }
+    Some(after)
 }
 
-// Enters a state, if no layer before has it, or gives it a label with fewer moves.
-fn enter_since(
-    begin: usize,
+// Enters a state, if no layer before kept it, or gives it a label with fewer moves.
+fn enter(
+    kept: &Visited,
     state: &Position,
     label: Label,
     listed: &mut Visited,
 ) -> Result<(), AllocError>
-    requires { FitsGrid listed.old.boxes listed.old.squares state.now }
+    requires before { FitsGrid kept.now.boxes kept.now.squares state.now }
+    requires list { FitsGrid listed.old.boxes listed.old.squares state.now }
     ensures { (listed.new.boxes ≡ listed.old.boxes) × (listed.new.squares ≡ listed.old.squares) }
 {
-    if listed.find(state).unwrap_or(begin) >= begin {
+    if kept.find(state).is_none() {
         let _ = listed.enter(state, label)?;
     }
     Ok(())
-}
-
-// The label of a state: its moves, what its rank has beside them, and the push before it.
-fn label_of(moves: u32, rank: u32, parent: Option<Parent>) -> Label {
-    Label {
-        pushes: moves,
-        least: Some(rank),
-        parent,
-    }
-}
-
-// The part of a state's rank beside its moves. Lower ranks are better.
-fn rank_of(
-    bounds: &Bounds<'_>,
-    aim: Aim,
-    nearness: Nearness,
-    state: &Position,
-    workspace: &mut Workspace<'_>,
-) -> u32
-    requires { FitsLevel bounds.now.board state.now }
-    ensures { workspace.new.expander ≡ workspace.old.expander }
-{
-    let displaced = nearness.displaced;
-    match aim {
-        Aim::FewerMoves => {
-            (RANK_BASE + DISPLACED_MOVES * displaced.min(2)).saturating_sub(nearness.walked)
-        }
-        Aim::FewerPushes => {
-            let low = bounds
-                .distances()
-                .lower(state, &mut workspace.next_matching);
-            let low = u32::try_from(low).unwrap_or(u32::MAX);
-            low.saturating_add(displaced).saturating_mul(RANK_PUSHES)
-        }
-    }
-}
-
-// The place of the solved state with the fewest moves among those from a place on.
-fn solved_since(level: &Level, listed: &Visited, begin: usize) -> Option<usize> {
-    let mut best = None;
-    let mut fewest = u32::MAX;
-    for place in begin..listed.len() {
-        let moves = listed.label(place).pushes;
-        if moves < fewest && level.are_on_goals(listed.position(place).boxes()) {
-            best = Some(place);
-            fewest = moves;
-        }
-    }
-    best
-}
-
-// The ranks and places of the states of the layer after this many pushes, from a place on, by rising rank. The state of
-// the solution comes first.
-fn ranks_since(
-    alloc: Global,
-    trail: &Trail,
-    pushes: u32,
-    begin: usize,
-    listed: &Visited,
-) -> Result<Vec<(u32, usize)>, AllocError> {
-    let mut ranked = Vec::new(alloc);
-    for place in begin..listed.len() {
-        let label = listed.label(place);
-        let rank = label.pushes.saturating_add(label.least.unwrap_or(0));
-        let is_own = trail.passes(pushes as usize, &listed.position(place));
-        ranked.push((if is_own { 0 } else { rank }, place))?;
-    }
-    ranked.sort_unstable();
-    Ok(ranked)
-}
-
-// The pushes that lead to the state at a place.
-fn pushes_to(alloc: Global, listed: &Visited, place: usize) -> Result<Vec<Push>, AllocError> {
-    let mut pushes = Vec::new(alloc);
-    let mut here = place;
-    for _ in 0..listed.len() {
-        if here >= listed.len() {
-            break;
-        }
-        let Some(parent) = listed.label(here).parent else {
-            break;
-        };
-        pushes.push(parent.push)?;
-        here = parent.place as usize;
-    }
-    pushes.reverse();
-    Ok(pushes)
 }

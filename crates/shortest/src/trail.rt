@@ -7,7 +7,8 @@ use std::alloc::{AllocError, Global};
 /// How many positions a vicinity holds.
 const SPAN: usize = 64;
 
-/// The positions of a solution: the start, and that after each push, with the player where the push leaves him.
+/// The positions of a solution: the start, and that after each push, with the player where the push leaves him. Empty
+/// without a solution.
 #[derive(Drop)]
 pub(crate) struct Trail {
     positions: Vec<Position>,
@@ -16,6 +17,14 @@ pub(crate) struct Trail {
 }
 
 impl Trail {
+    /// No positions. Takes no memory.
+    pub(crate) fn new(alloc: Global) -> Trail {
+        Trail {
+            positions: Vec::new(alloc),
+            walked: Vec::new(alloc),
+        }
+    }
+
     /// The positions that moves pass from the start on. Fails only if out of memory.
     pub(crate) fn of(
         alloc: Global,
@@ -41,6 +50,11 @@ impl Trail {
             }
         }
         Ok(Trail { positions, walked })
+    }
+
+    /// Whether there is no solution.
+    pub(crate) fn is_empty(&self) -> bool {
+        self.positions.is_empty()
     }
 
     /// Whether the position after a number of pushes has the boxes of this one.
@@ -127,7 +141,7 @@ impl Vicinity {
     }
 
     /// How near the boxes are if the one on `from` moves to `to`. `None` if more than `most`, or more than two, differ
-    /// from each position.
+    /// from each position. Without positions all boxes are near.
     pub(crate) fn nearness(
         &self,
         boxes: &[Square],
@@ -135,6 +149,9 @@ impl Vicinity {
         to: Square,
         most: u32,
     ) -> Option<Nearness> {
+        if self.positions == 0 {
+            return Some(self.nearness_by(0, 0));
+        }
         let (one, two, three) = self.missing(boxes, from, to);
         let same = !one & self.positions;
         if same != 0 {

@@ -1,6 +1,7 @@
 -- A collection, as its levels are explained one by one.
 use Rattle.std.proofs.Common.{◌≡◌, ℕ, suc, ◌+◌, ◌<◌, ◌≤◌, Bool, true, false, cond, ◌&&◌, List, [], ◌∷◌, ◌++◌, length, Option, Some, None, Result, refl, sym, ap, ◌∙◌, subst}
 use Rattle.std.proofs.Common.{Ok, Err, OnOk, inl, inr, IfOk, IfSome, is_none, append_assoc, append-nil}
+use Rattle.std.proofs.Common.{arith}
 use Rattle.std.proofs.lemmas.Bool.{false≢true}
 use Rattle.grid.specs.Board.{Board}
 use Rattle.grid.specs.declared.fault.LevelFault.{LevelFault}
@@ -10,7 +11,8 @@ use Rattle.xsb.specs.Collection.{Found, IsJudged}
 use Rattle.xsb.specs.Entries.{IsBoardEntry}
 use Rattle.xsb.specs.declared.entry.BoardEntry.{BoardEntry}
 use Rattle.xsb.specs.Breaks.{IsBroken}
-use Rattle.xsb.specs.Places.{IsBoardAt, IsExcess, excess_fault}
+use Rattle.xsb.specs.Foreign.{looks_foreign}
+use Rattle.xsb.specs.Places.{IsBoardAt, IsExcess, IsLineOf, excess_fault}
 use Rattle.xsb.specs.declared.breaks.BrokenRow.{BrokenRow}
 use Rattle.xsb.specs.declared.limits.TheConstants.{MAX_FILE}
 use Rattle.xsb.specs.declared.places.BoardRows.{BoardRows}
@@ -22,15 +24,15 @@ use Rattle.xsb.specs.inside.Cursors.{IsAt}
 use Rattle.xsb.specs.inside.Progress.{HasRead, lines_left}
 use Rattle.xsb.specs.inside.Sources.{AreRowsOf, GivesSource, HasRowsFor}
 use Rattle.sokopar.specs.Entries.{listed_of}
-use Rattle.sokopar.specs.Explaining.{Explains, IsExplainReport, explained, IsPicture, IsRemarkOn, broken_line, drawn, is_drawn, is_quiet, is_sound, is_wanted}
-use Rattle.sokopar.specs.Explaining.{excess_words, level_text, remark_words, broken, large, other, told}
+use Rattle.sokopar.specs.Explaining.{Explains, IsExplainReport, explained, IsPicture, IsRemarkOn, broken_line, drawn, is_drawn, is_quiet, is_sound, is_unsolvable, is_wanted}
+use Rattle.sokopar.specs.Explaining.{excess_words, level_text, remark_words, broken, foreign, large, other, told}
 use Rattle.sokopar.specs.Listing.{Listed, IsLevelListing}
 use Rattle.sokopar.specs.Report.{Report, check_line}
 use Rattle.sokopar.specs.declared.explain.Broken.{Broken}
 use Rattle.sokopar.specs.declared.explain.Page.{Page}
 use Rattle.sokopar.specs.declared.remark.Remark.{Remark}
-use Rattle.sokopar.specs.declared.remark.Remark.TheVariants.{Players, Unequal, Exit, DeadBoxes, Frozen, Sound}
-use Rattle.sokopar.specs.inside.Explaining.{AreBounded, HaveBroken, board_in}
+use Rattle.sokopar.specs.declared.remark.Remark.TheVariants.{Players, Unequal, Exit, Solved, Lost, Frozen, Stuck, Unmatched, Sound}
+use Rattle.sokopar.specs.inside.Explaining.{AreBounded, HaveBroken, board_in, foreign_line}
 use Rattle.sokopar.specs.inside.Pages.{Adds, IsPage, IsSourceOf, Tells}
 use Rattle.sokopar.specs.inside.Parts.{is_good}
 use Rattle.sokopar.proofs.Listings.{HasChecked, checked-more, checked-none}
@@ -75,12 +77,11 @@ explained-all last is all = (is.checked.so_far.founds, all, is.checked.so_far.ea
 -- a broken row more
 pub page-broken : {bytes : List ℕ} {wanted : Option ℕ} {listing : List Listed} {page : Page} {gap : Broken} (new : Page) (left : Broken) (row : BrokenRow) →
     IsPage bytes wanted listing page gap → gap.first ≡ Some row → HaveBroken bytes left.rows left.first →
-    new.text ≡ page.text ++ broken_line row → new.sound ≡ false → IsPage bytes wanted listing new left
-page-broken {bytes} {wanted} {listing} {page} {gap} new left row is first rest text found =
+    new ≡ record { text = page.text ++ broken_line row; sound = false; lost = page.lost } → IsPage bytes wanted listing new left
+page-broken {bytes} {wanted} {listing} {page} {gap} new left row is first rest same =
     let true_of : IsBroken bytes row = subst (λ f. IfSome f (IsBroken bytes)) first is.broken.first in
     record {
-      text = subst (λ s. Explains bytes wanted listing new.text s) (sym found)
-          (subst (λ t. Explains bytes wanted listing t false) (sym text) (broken row is.text true_of));
+      text = subst (λ (p : Page). Explains bytes wanted listing p.text p.sound p.lost) (sym same) (broken row is.text true_of);
       broken = rest;
     }
 
@@ -88,7 +89,7 @@ page-broken {bytes} {wanted} {listing} {page} {gap} new left row is first rest t
 pub page-passed : {bytes : List ℕ} {wanted : Option ℕ} {listing : List Listed} {page : Page} {gap : Broken} (new : Page) (left : Broken) →
     IsPage bytes wanted listing page gap → HaveBroken bytes left.rows left.first → new ≡ page → IsPage bytes wanted listing new left
 page-passed {bytes} {wanted} {listing} {page} {gap} new left is rest same = record {
-  text = subst (λ p. Explains bytes wanted listing p.text p.sound) (sym same) is.text;
+  text = subst (λ (p : Page). Explains bytes wanted listing p.text p.sound p.lost) (sym same) is.text;
   broken = rest;
 }
 
@@ -97,19 +98,20 @@ pub level-told : (bytes : List ℕ) (wanted : Option ℕ) (number : ℕ) (listin
     (places : List RowPlace) (remark : Remark) (old new : Page) → number ≡ suc (length listing) → is_wanted wanted number ≡ true →
     IsBoardAt bytes listed.first_line board places → IsJudged board listed.board → IsRemarkOn listed.board board remark →
     Tells wanted number listed board places remark old new →
-    Explains bytes wanted listing old.text old.sound → Explains bytes wanted (listing ++ listed ∷ []) new.text new.sound
+    Explains bytes wanted listing old.text old.sound old.lost → Explains bytes wanted (listing ++ listed ∷ []) new.text new.sound new.lost
 level-told bytes wanted number listing listed board places remark old new count is at_line judged remark_on tells before =
     let picture = tells.0 in
     let adds = tells.2 in
-    subst (λ s. Explains bytes wanted (listing ++ listed ∷ []) new.text s) (sym adds.1)
-    (subst (λ t. Explains bytes wanted (listing ++ listed ∷ []) t (old.sound && is_sound remark))
+    subst (λ k. Explains bytes wanted (listing ++ listed ∷ []) new.text new.sound k) (sym adds.2)
+    (subst (λ s. Explains bytes wanted (listing ++ listed ∷ []) new.text s (cond (is_unsolvable remark) (old.lost + 1) old.lost)) (sym adds.1)
+    (subst (λ t. Explains bytes wanted (listing ++ listed ∷ []) t (old.sound && is_sound remark) (cond (is_unsolvable remark) (old.lost + 1) old.lost))
     (sym (adds.0 ∙ ap (λ n. old.text ++ level_text wanted n listed board places remark picture) count))
-    (told listed board places remark picture before (ap (is_wanted wanted) (sym count) ∙ is) at_line judged remark_on tells.1))
+    (told listed board places remark picture before (ap (is_wanted wanted) (sym count) ∙ is) at_line judged remark_on tells.1)))
 
 -- or it is another one
 pub level-other : (bytes : List ℕ) (wanted : Option ℕ) (number : ℕ) (listing : List Listed) (listed : Listed) (page : Page) →
     number ≡ suc (length listing) → is_wanted wanted number ≡ false →
-    Explains bytes wanted listing page.text page.sound → Explains bytes wanted (listing ++ listed ∷ []) page.text page.sound
+    Explains bytes wanted listing page.text page.sound page.lost → Explains bytes wanted (listing ++ listed ∷ []) page.text page.sound page.lost
 level-other bytes wanted number listing listed page count is before = other listed before (ap (is_wanted wanted) (sym count) ∙ is)
 
 -- texts one after the other
@@ -124,13 +126,28 @@ quiet-sound true true none is = refl
 quiet-sound true false none is = refl
 quiet-sound false so_far none is = absurd (false≢true is)
 
+-- a level of which nothing is written is not found unsolvable
+quiet-lost : (remark : Remark) (wanted : Option ℕ) (lost : ℕ) → is_quiet remark wanted ≡ true → lost ≡ cond (is_unsolvable remark) (lost + 1) lost
+quiet-lost (Players squares) wanted lost quiet = refl
+quiet-lost (Unequal boxes goals) wanted lost quiet = refl
+quiet-lost (Exit q) wanted lost quiet = refl
+quiet-lost Solved wanted lost quiet = refl
+quiet-lost (Lost plight squares) wanted lost quiet = absurd (false≢true quiet)
+quiet-lost (Frozen squares) wanted lost quiet = absurd (false≢true quiet)
+quiet-lost Stuck wanted lost quiet = absurd (false≢true quiet)
+quiet-lost Unmatched wanted lost quiet = absurd (false≢true quiet)
+quiet-lost Sound wanted lost quiet = refl
+
 -- a level of which nothing is written is not drawn
 quiet-undrawn : (remark : Remark) (wanted : Option ℕ) → is_quiet remark wanted ≡ true → is_drawn remark wanted ≡ true → ⊥
 quiet-undrawn (Players squares) wanted quiet shown = false≢true quiet
 quiet-undrawn (Unequal boxes goals) wanted quiet shown = false≢true quiet
 quiet-undrawn (Exit q) wanted quiet shown = false≢true quiet
-quiet-undrawn (DeadBoxes squares) wanted quiet shown = false≢true quiet
+quiet-undrawn Solved wanted quiet shown = false≢true quiet
+quiet-undrawn (Lost plight squares) wanted quiet shown = false≢true quiet
 quiet-undrawn (Frozen squares) wanted quiet shown = false≢true quiet
+quiet-undrawn Stuck wanted quiet shown = false≢true quiet
+quiet-undrawn Unmatched wanted quiet shown = false≢true quiet
 quiet-undrawn Sound None quiet shown = false≢true shown
 quiet-undrawn Sound (Some n) quiet shown = false≢true quiet
 
@@ -144,22 +161,24 @@ tells-nothing wanted n listed board places remark page is =
       (
         sym (append-nil page.text) ∙ ap (λ (b : Bool). page.text ++ cond b [] more) (sym is),
         quiet-sound (is_sound remark) page.sound (is_none wanted) is,
+        quiet-lost remark wanted page.lost is,
       ),
     )
 
 -- a level is written about
 module _ (wanted : Option ℕ) (n : ℕ) (listed : Listed) (board : Board) (places : List RowPlace) (remark : Remark) (old new : Page) (one two : List ℕ)
     (loud : is_quiet remark wanted ≡ false) (head : one ≡ old.text ++ check_line n listed) (said : two ≡ one ++ remark_words board.cols places remark)
-    (found : new.sound ≡ (old.sound && is_sound remark)) where
+    (found : new.sound ≡ (old.sound && is_sound remark)) (number : new.lost ≡ cond (is_unsolvable remark) (old.lost + 1) old.lost) where
   -- with its board or without it
   adds-text : (picture : List ℕ) → new.text ≡ two ++ cond (is_drawn remark wanted) (drawn board picture) [] →
-      Adds (level_text wanted n listed board places remark picture) (is_sound remark) old new
+      Adds (level_text wanted n listed board places remark picture) (is_sound remark) (is_unsolvable remark) old new
   adds-text picture text =
       let rows = cond (is_drawn remark wanted) (drawn board picture) [] in
       let more = check_line n listed ++ remark_words board.cols places remark ++ rows in (
         three_said old.text (check_line n listed) (remark_words board.cols places remark) rows one two new.text head said text
             ∙ ap (λ (b : Bool). old.text ++ cond b [] more) (sym loud),
         found,
+        number,
       )
 
   -- without its board
@@ -214,7 +233,8 @@ pub level-written : {A E : Type 0} (result : Result A E) (bytes : List ℕ) (wan
     AreRowsOf here.lines found.first_line found.board rows →
     OnOk result ((remark : Remark) × IsRemarkOn entry.board (board_in rows) remark ×
     Tells wanted number (listed_of entry) (board_in rows) rows.places.items remark old new) →
-    Explains bytes wanted listing old.text old.sound → OnOk result (Explains bytes wanted (listing ++ listed_of entry ∷ []) new.text new.sound)
+    Explains bytes wanted listing old.text old.sound old.lost →
+    OnOk result (Explains bytes wanted (listing ++ listed_of entry ∷ []) new.text new.sound new.lost)
 level-written (Err e) bytes wanted number listing entry found places rows old new count is listed here has tells before = tt
 level-written (Ok a) bytes wanted number listing entry found places rows old new count is listed here has tells before =
     let at_line = subst (λ n. IsBoardAt bytes n found.board places) (sym listed.first_line) here in
@@ -240,17 +260,19 @@ pub level-large : {A E : Type 0} (result : Result A E) (bytes : List ℕ) (wante
     (entry : BoardEntry) (found : Found) (places : List RowPlace) (excess : Excess) (old new : Page) → number ≡ suc (length listing) →
     is_wanted wanted number ≡ true → IsBoardEntry entry found → (here : IsBoardAt bytes found.first_line found.board places) →
     HasRowsFor here.lines found.first_line found.board (Err excess) →
-    OnOk result ((new.text ≡ old.text ++ check_line number (listed_of entry) ++ excess_words excess) × (new.sound ≡ false)) →
-    Explains bytes wanted listing old.text old.sound → OnOk result (Explains bytes wanted (listing ++ listed_of entry ∷ []) new.text new.sound)
+    OnOk result ((new.text ≡ old.text ++ check_line number (listed_of entry) ++ excess_words excess) × (new.sound ≡ false) × (new.lost ≡ old.lost)) →
+    Explains bytes wanted listing old.text old.sound old.lost →
+    OnOk result (Explains bytes wanted (listing ++ listed_of entry ∷ []) new.text new.sound new.lost)
 level-large (Err e) bytes wanted number listing entry found places excess old new count is listed here past said before = tt
 level-large (Ok a) bytes wanted number listing entry found places excess old new count is listed here past said before =
     let all = listing ++ listed_of entry ∷ [] in
     let P : ℕ → Type 0 = λ n. (board : IsBoardAt bytes n found.board places) × IsExcess board.lines n excess in
     let there = subst P (sym listed.first_line) (here, past.0) in
-    subst (λ s. Explains bytes wanted all new.text s) (sym said.1)
-    (subst (λ t. Explains bytes wanted all t false) (sym (said.0 ∙ ap (λ n. old.text ++ check_line n (listed_of entry) ++ excess_words excess) count))
+    subst (λ k. Explains bytes wanted all new.text new.sound k) (sym said.2)
+    (subst (λ s. Explains bytes wanted all new.text s old.lost) (sym said.1)
+    (subst (λ t. Explains bytes wanted all t false old.lost) (sym (said.0 ∙ ap (λ n. old.text ++ check_line n (listed_of entry) ++ excess_words excess) count))
     (large (listed_of entry) found.board places excess before (ap (is_wanted wanted) (sym count) ∙ is) there.0 listed.board
-    (judged_large entry.board found.board excess listed.board past.1) there.1))
+    (judged_large entry.board found.board excess listed.board past.1) there.1)))
 
 -- the board of a source, as it is given
 pub source-of : (bytes : List ℕ) (founds : List Found) (last : Collection) (source : BoardSource) →
@@ -259,15 +281,22 @@ source-of bytes founds last source next = (next.0, (next.1.board, (next.4.1.line
 
 -- the gap and the level after it are written, if memory lasts
 pub page-next : {A E : Type 0} (result : Result A E) (bytes : List ℕ) (wanted : Option ℕ) (listing : List Listed) (new : Page) (gaps : Broken) →
-    HaveBroken bytes gaps.rows gaps.first → OnOk result (Explains bytes wanted listing new.text new.sound) →
+    HaveBroken bytes gaps.rows gaps.first → OnOk result (Explains bytes wanted listing new.text new.sound new.lost) →
     OnOk result (IsPage bytes wanted listing new gaps)
 page-next (Err e) bytes wanted listing new gaps rest said = tt
 page-next (Ok a) bytes wanted listing new gaps rest said = record { text = said; broken = rest }
 
 -- the report of all levels
 pub explained-report : {E : Type 0} (result : Result Report E) (bytes : List ℕ) (wanted : Option ℕ) (listing : List Listed) (page : Page) →
-    IsLevelListing bytes listing → Explains bytes wanted listing page.text page.sound →
-    IfOk result (λ report. report ≡ explained wanted listing page.text page.sound) →
+    IsLevelListing bytes listing → Explains bytes wanted listing page.text page.sound page.lost →
+    IfOk result (λ report. report ≡ explained wanted listing page.text page.sound page.lost) →
     IfOk result (λ report. IsExplainReport wanted bytes report)
 explained-report (Err e) bytes wanted listing page lists said made = tt
-explained-report (Ok r) bytes wanted listing page lists said made = (listing, lists, page.text, page.sound, said, made)
+explained-report (Ok r) bytes wanted listing page lists said made = (listing, lists, page.text, page.sound, page.lost, said, made)
+
+-- a line of other characters is named, if there is no level
+pub strange-said : (bytes : List ℕ) (wanted : Option ℕ) (levels n : ℕ) (listing : List Listed) (row : List ℕ) (old : Page) → levels ≡ length listing →
+    levels ≡ 0 → IsLevelListing bytes listing → IsLineOf bytes n row → looks_foreign row ≡ true →
+    Explains bytes wanted listing old.text old.sound old.lost → Explains bytes wanted listing (old.text ++ foreign_line n) false old.lost
+strange-said bytes wanted levels n [] row old count zero lists is_line looks before = foreign n row before lists is_line looks
+strange-said bytes wanted levels n (x ∷ xs) row old count zero lists is_line looks before = absurd (omega (arith, count, zero))

@@ -1,11 +1,12 @@
 -- What searches know of a level, and that judgements are right.
-use Rattle.std.proofs.Common.{◌≡◌, ℕ, suc, ◌<◌, ◌≤◌, ◌⊎◌, Bool, true, false, List, [], ◌∷◌, length, Option, Some, None, Result, Ok, Err, IfOk, IfSome, inl, inr, refl, sym, subst, ◌∙◌, arith}
+use Rattle.std.proofs.Common.{◌≡◌, ℕ, suc, ◌<◌, ◌≤◌, ◌⊎◌, Bool, true, false, List, [], ◌∷◌, length, Option, Some, None, Result, Ok, Err, IfOk, IfSome, MatchOption, inl, inr, refl, sym, subst, ◌∙◌, arith}
 use Rattle.grid.specs.Board.{Board}
 use Rattle.grid.proofs.lemmas.Plays.{length-pushes}
 use Rattle.grid.specs.Lawful.{box_count}
 use Rattle.grid.specs.Plays.{dirs_of}
 use Rattle.grid.specs.declared.limits.TheConstants.{MAX_BOXES}
 use Rattle.grid.specs.declared.moves.Letter.{Letter}
+use Rattle.judging.specs.Kinds.{at_hand}
 use Rattle.judging.specs.declared.judgement.Counts.{Counts}
 use Rattle.judging.specs.declared.judgement.Judgement.{Judgement}
 use Rattle.judging.specs.declared.judgement.Judgement.TheVariants as is
@@ -32,7 +33,7 @@ use Rattle.shortest.specs.Outcomes.{IsMovesOutcome}
 use Rattle.shortest.specs.Shortest.{NoneIsBetter}
 use Rattle.shortest.specs.declared.outcome.MovesOutcome.{MovesOutcome}
 use Rattle.shortest.specs.declared.outcome.MovesOutcome.TheVariants as moves_outcome
-use Rattle.sokopar.specs.Judging.{IsBetter, IsClaim, IsFailure, IsGiven, IsJudged, IsJudgedText, IsKnown, IsOpen, IsUnsolvable, IsWithinCap}
+use Rattle.sokopar.specs.Judging.{IsBetter, IsClaim, IsEnd, IsFailure, IsGiven, IsJudged, IsJudgedGiven, IsJudgedText, IsKnown, IsOpen, IsUnsolvable, IsWithinCap}
 use Rattle.sokopar.specs.inside.Parts.{IsBeside, IsCompared, failed, found_known, given_known}
 
 -- ---- what a search says
@@ -116,6 +117,18 @@ pub beside_given : (set : Settings) (board : Board) (given : Counts) (known : Kn
 beside_given set board given known bound claim is none end =
     subst (λ (k : Known). IsBeside set board (Some given) k) (sym is) (refl, record { found = tt; bound = none; end = end })
 
+-- of none beyond the given one, at a limit
+pub beside_open : (set : Settings) (board : Board) (given : Option Counts) (known : Known) (bound : ℕ) →
+    known ≡ given_known given bound Counted → NoneHasFewer board bound → IsOpen set board bound →
+    IfSome given (λ (s : Counts). bound < s.pushes) → IsBeside set board given known
+beside_open set board given known bound is none open_so more =
+    subst (λ (k : Known). IsBeside set board given k) (sym is) (refl, record { found = tt; bound = none; end = by given more })
+  where
+    by : (given : Option Counts) → IfSome given (λ (s : Counts). bound < s.pushes) →
+        MatchOption (at_hand given None) (IsOpen set board bound) (IsEnd set board (given_known given bound Counted))
+    by None more = open_so
+    by (Some s) more = inr (more, open_so)
+
 -- a solution with fewer pushes is better
 pub fewer_is_better : (set : Settings) (given : Option Counts) (pushes moves : ℕ) → IfSome given (λ (s : Counts). pushes < s.pushes) →
     IfSome given (IsBetter set (record { pushes = pushes; moves = moves }))
@@ -159,7 +172,7 @@ judged_of set board letters given (is.OutOfMemory held (Some bound)) few has (sa
 judged_of set board letters given is.NoneWithin few has bad = absurd bad
 judged_of set board letters given is.Unsolvable few has bad = absurd bad
 judged_of set board letters given (is.TooManyBoxes held) few has bad = absurd bad
-judged_of set board letters given (is.Failing verdict) few has bad = absurd bad
+judged_of set board letters given (is.Replayed verdict) few has bad = absurd bad
 judged_of set board letters given (is.BadText fault) few has bad = absurd bad
 judged_of set board letters given (is.Faulty fault) few has bad = absurd bad
 judged_of set board letters given is.CannotRead few has bad = absurd bad
@@ -179,19 +192,6 @@ judged_unsolvable set board o few is e = let found = by (subst (λ (x : Outcome)
   where
     by : IsOutcome board set.cap set.limit Unsolvable → (set.cap ≡ None) × IsUnsolvable board
     by (uncapped, lost) = (uncapped, λ ds ps solution. lost solution.0 ds ps solution.1 solution.2)
-
-pub judged_open : (set : Settings) (board : Board) (o : Outcome) (bound : ℕ) (known : Known) → box_count board ≤ MAX_BOXES →
-    IsOutcome board set.cap set.limit o → o ≡ Limit bound → known ≡ given_known None bound Counted → IsJudged set board None (is.Searched known)
-judged_open set board o bound known few so e made =
-    subst (λ (k : Known). IsJudged set board None (is.Searched k)) (sym made) (
-      few,
-      tt,
-      record {
-        found = tt;
-        bound = limit_least set.cap set.limit board o bound so e;
-        end = (limit_open set.cap set.limit board o bound so e, limit_within set.cap set.limit board o bound so e);
-      },
-    )
 
 -- ---- letters and texts
 
@@ -237,13 +237,24 @@ fails_wrong_case v place e = subst IsFailure (sym e) tt
 -- what is judged of letters depends on their verdict
 pub ruleset of_verdict = (few_pushes, solves, fails_unsolved, fails_blocked, fails_wrong_case)
 
--- what is judged of a text
-pub of_text : {E : Type 0} (set : Settings) (board : Board) (text : List ℕ) (letters : List Letter) (r : Result Judgement E) →
-    IsText text letters → IfOk r (λ judgement. IsJudged set board (Some letters) judgement) → IfOk r (λ judgement. IsJudgedText set board text judgement)
-of_text set board text letters (Ok judgement) has is = inl (letters, has, is)
-of_text set board text letters (Err e) has is = tt
+-- what is judged of given letters, by whether they are proved or only replayed
+pub by_search : {E : Type 0} (proves : Bool) (set : Settings) (board : Board) (letters : List Letter) (r : Result Judgement E) → proves ≡ true →
+    IfOk r (λ judgement. IsJudged set board (Some letters) judgement) → IfOk r (λ judgement. IsJudgedGiven proves set board letters judgement)
+by_search proves set board letters r e is = subst (λ (p : Bool). IfOk r (λ judgement. IsJudgedGiven p set board letters judgement)) (sym e) is
 
-pub of_fault : {E : Type 0} (set : Settings) (board : Board) (text : List ℕ) (fault : LurdFault) (r : Result Judgement E) →
-    HasTextFault text fault → IfOk r (λ judgement. judgement ≡ is.BadText fault) → IfOk r (λ judgement. IsJudgedText set board text judgement)
-of_fault set board text fault (Ok judgement) has is = inr (fault, has, is)
-of_fault set board text fault (Err e) has is = tt
+pub by_replay : (proves : Bool) (set : Settings) (board : Board) (letters : List Letter) (verdict : Verdict) → proves ≡ false →
+    IsVerdict board letters verdict → IsJudgedGiven proves set board letters (is.Replayed verdict)
+by_replay proves set board letters verdict e has =
+    subst (λ (p : Bool). IsJudgedGiven p set board letters (is.Replayed verdict)) (sym e) has
+
+-- what is judged of a text
+pub of_text : {E : Type 0} (proves : Bool) (set : Settings) (board : Board) (text : List ℕ) (letters : List Letter) (r : Result Judgement E) →
+    IsText text letters → IfOk r (λ judgement. IsJudgedGiven proves set board letters judgement) →
+    IfOk r (λ judgement. IsJudgedText proves set board text judgement)
+of_text proves set board text letters (Ok judgement) has is = inl (letters, has, is)
+of_text proves set board text letters (Err e) has is = tt
+
+pub of_fault : {E : Type 0} (proves : Bool) (set : Settings) (board : Board) (text : List ℕ) (fault : LurdFault) (r : Result Judgement E) →
+    HasTextFault text fault → IfOk r (λ judgement. judgement ≡ is.BadText fault) → IfOk r (λ judgement. IsJudgedText proves set board text judgement)
+of_fault proves set board text fault (Ok judgement) has is = inr (fault, has, is)
+of_fault proves set board text fault (Err e) has is = tt

@@ -9,10 +9,12 @@ mod Maps
 mod OneReport
 mod Pictures
 mod Piping
+mod Plights
 mod Reading
 mod Remarks
 mod Reporting
 mod Sentencing
+mod Shown
 mod Solutions
 mod Walks
 mod Writing

@@ -1,6 +1,6 @@
 -- A collection, as its boards are judged one by one.
 use Rattle.std.proofs.Common.{◌≡◌, ◌≢◌, ℕ, zero, suc, ◌+◌, ◌-◌, ◌<◌, ◌≤◌, Bool, true, false, cond, List, [], ◌∷◌, ◌++◌, length, Option, Some, None, Result}
-use Rattle.std.proofs.Common.{option_map, slice_get, ◌==◌, if◌then◌else◌, codes, decimal, refl, sym, ap, ◌∙◌, arith}
+use Rattle.std.proofs.Common.{option_map, slice_get, ◌==◌, if◌then◌else◌, codes, decimal, refl, sym, ap, ◌∙◌, subst, arith}
 use Rattle.std.proofs.Common.{length-append, append_assoc}
 use Rattle.std.specs.List.{AllZip, count_by}
 use Rattle.std.proofs.lemmas.List.{append-nil}
@@ -22,6 +22,14 @@ pub record HasListed (bytes : List ℕ) (left : Collection) (listing : List List
   pub founds : List Found
   pub read : HasRead bytes left founds
   pub each : AllZip IsListed listing founds
+
+-- what reading on from a board gives
+abbrev pub Next : Collection → Collection → Option BoardEntry → Type 0
+Next first last read = (bytes : List ℕ) (founds : List Found) → HasRead bytes first founds → GivesNext bytes founds last read
+
+pub next_given : {bytes : List ℕ} {first : Collection} {listing : List Listed} (last : Collection) (read next : Option BoardEntry)
+    (is : HasListed bytes first listing) → Next first last read → read ≡ next → GivesNext bytes is.founds last next
+next_given {bytes} last read next is gives same = subst (λ n. GivesNext bytes is.founds last n) same (gives bytes is.founds is.read)
 
 each-last : (listing : List Listed) (founds : List Found) (listed : Listed) (found : Found) → AllZip IsListed listing founds → IsListed listed found
     → AllZip IsListed (listing ++ listed ∷ []) (founds ++ found ∷ [])
@@ -118,6 +126,18 @@ checked-all {bytes} {text} {left} {levels} {good} last is all report made =
     let same : report_with text levels good ≡ check_report is.listing = λ i. report_with (is.lines i) (is.count i) (is.lawful i) in
     (is.listing, listed-all last is.so_far all, made ∙ same)
 
+-- by what reading on gave
+pub checked_next : {bytes text : List ℕ} {first : Collection} {levels good : ℕ} (last : Collection) (read : Option BoardEntry) (entry : BoardEntry)
+    (more : List ℕ) (now : ℕ) → HasChecked bytes first text levels good → Next first last read → read ≡ Some entry → lines_left last < lines_left first →
+    now ≡ cond (is_good (listed_of entry)) (good + 1) good → more ≡ text ++ check_line (levels + 1) (listed_of entry) →
+    HasChecked bytes last more (levels + 1) now
+checked_next last read entry more now is gives some fewer grown line =
+    checked-more last entry more now is (next_given last read (Some entry) is.so_far gives some) fewer grown line
+
+pub checked_end : {bytes text : List ℕ} {first : Collection} {levels good : ℕ} (last : Collection) (read : Option BoardEntry) (report : Report) →
+    HasChecked bytes first text levels good → Next first last read → read ≡ None → report ≡ report_with text levels good → IsCheckReport bytes report
+checked_end last read report is gives none made = checked-all last is (next_given last read None is.so_far gives none) report made
+
 -- how far a level was looked for by its number
 pub record HasLooked (bytes : List ℕ) (left : Collection) (number count : ℕ) (chosen : Option (Result Board LevelFault)) : Type 0 where
   pub listing : List Listed
@@ -125,15 +145,6 @@ pub record HasLooked (bytes : List ℕ) (left : Collection) (number count : ℕ)
   pub counted : count ≡ length listing
   pub is : chosen ≡ level_at listing number
   pub room : count + lines_left left ≤ MAX_FILE
-
-pub looked-none : (bytes : List ℕ) (left : Collection) (number : ℕ) → HasRead bytes left [] → lines_left left ≤ MAX_FILE → HasLooked bytes left number 0 None
-looked-none bytes left number read few = record {
-  listing = [];
-  so_far = record { founds = []; read = read; each = tt };
-  counted = refl;
-  is = refl;
-  room = omega arith;
-}
 
 get-last : (listing : List Listed) (listed : Listed) (k : ℕ) → k ≡ length listing → slice_get (listing ++ listed ∷ []) k ≡ Some listed
 get-last [] listed zero at = refl
@@ -148,33 +159,37 @@ get-other (l ∷ listing) listed zero at = refl
 get-other (l ∷ listing) listed (suc k) at = get-other listing listed k (λ e. at (ap suc e))
 
 -- a board more, which is that of the number
-pub looked-here : {bytes : List ℕ} {first : Collection} {number count : ℕ} {chosen : Option (Result Board LevelFault)} (last : Collection) (entry : BoardEntry)
-    (is : HasLooked bytes first number count chosen)
-    → GivesNext bytes is.so_far.founds last (Some entry) → lines_left last < lines_left first → count + 1 ≡ number → (board : Result Board LevelFault) →
-    board ≡ entry.board
-    → HasLooked bytes last number (count + 1) (Some board)
-looked-here {bytes} {first} {number} {count} {chosen} last entry is next fewer here board same =
+pub looked_here : {bytes : List ℕ} {first : Collection} {number count : ℕ} {chosen : Option (Result Board LevelFault)} (last : Collection)
+    (read : Option BoardEntry) (entry : BoardEntry) (board : Result Board LevelFault) → HasLooked bytes first number count chosen → Next first last read →
+    read ≡ Some entry → lines_left last < lines_left first → count + 1 ≡ number → board ≡ entry.board →
+    HasLooked bytes last number (count + 1) (Some board)
+looked_here {bytes} {first} {number} {count} {chosen} last read entry board is gives some fewer here same =
     let counted = is.counted in let long = length-append is.listing (listed_of entry ∷ []) in let room = is.room in
     record {
       listing = is.listing ++ listed_of entry ∷ [];
-      so_far = listed-more last entry is.so_far next;
+      so_far = listed-more last entry is.so_far (next_given last read (Some entry) is.so_far gives some);
       counted = omega arith;
       is = ap Some same ∙ sym (ap (option_map (λ listed. listed.board)) (get-last is.listing (listed_of entry) (number - 1) (omega arith)));
       room = omega arith;
     }
 
 -- or another one
-pub looked-on : {bytes : List ℕ} {first : Collection} {number count : ℕ} {chosen : Option (Result Board LevelFault)} (last : Collection) (entry : BoardEntry)
-    (is : HasLooked bytes first number count chosen)
-    → GivesNext bytes is.so_far.founds last (Some entry) → lines_left last < lines_left first → 1 ≤ number → count + 1 ≢ number →
-    HasLooked bytes last number (count + 1) chosen
-looked-on {bytes} {first} {number} {count} {chosen} last entry is next fewer some other =
+pub looked_on : {bytes : List ℕ} {first : Collection} {number count : ℕ} {chosen : Option (Result Board LevelFault)} (last : Collection)
+    (read : Option BoardEntry) (entry : BoardEntry) → HasLooked bytes first number count chosen → Next first last read → read ≡ Some entry →
+    lines_left last < lines_left first → 1 ≤ number → count + 1 ≢ number → HasLooked bytes last number (count + 1) chosen
+looked_on {bytes} {first} {number} {count} {chosen} last read entry is gives one fewer some other =
     let counted = is.counted in let long = length-append is.listing (listed_of entry ∷ []) in let room = is.room in
     record {
       listing = is.listing ++ listed_of entry ∷ [];
-      so_far = listed-more last entry is.so_far next;
+      so_far = listed-more last entry is.so_far (next_given last read (Some entry) is.so_far gives one);
       counted = omega arith;
       is = is.is ∙ sym (ap (option_map (λ listed. listed.board))
           (get-other is.listing (listed_of entry) (number - 1) (λ e. other (omega (arith, e, counted, some)))));
       room = omega arith;
     }
+
+-- no board more
+pub looked_all : {bytes : List ℕ} {first : Collection} {number count : ℕ} {chosen : Option (Result Board LevelFault)} (last : Collection)
+    (read : Option BoardEntry) → HasLooked bytes first number count chosen → Next first last read → read ≡ None →
+    (listing : List Listed) × IsLevelListing bytes listing × (chosen ≡ level_at listing number)
+looked_all last read is gives none = (is.listing, listed-all last is.so_far (next_given last read None is.so_far gives none), is.is)

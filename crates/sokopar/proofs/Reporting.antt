@@ -135,13 +135,20 @@ given_stopped bytes n level board fault old new has is ((lawful, same), stops) =
     inr (lawful, (has.0, has.1, sym has.2 ∙ is ∙ ap (λ (b : Result Board LevelFault). Some b) same), stops)
 
 -- memory ran out after the solution was judged
-pub given_unreported : (set : Settings) (bytes : List ℕ) (n : ℕ) (level : Option (Result Board LevelFault)) (board : Result Board LevelFault)
-    (judgement : Judgement) (old new : Seen) → IsAt bytes n level → level ≡ Some board →
+pub given_unreported : {A : Type 0} (set : Settings) (bytes : List ℕ) (n : ℕ) (level : Option (Result Board LevelFault))
+    (board : Result Board LevelFault) (judgement : Judgement) (old new : Seen) (result : Result A RunFault) → result ≡ Err OutOfMemory →
+    IsAt bytes n level → level ≡ Some board →
     ((text : Option (List ℕ)) × ReadsIfSome old new text × IsJudgedOn true set board text judgement) →
-    ((OutOfMemory ≡ OutOfMemory) × (new ≡ old)) ⊎ ((board : Board) × IsLevelOf bytes n board × Stops old new OutOfMemory)
-given_unreported set bytes n level (Ok lawful) judgement old new has is (text, reads, (read, same, right)) =
-    inr (lawful, (has.0, has.1, sym has.2 ∙ is), stops_after old new read (subst (λ (t : Option (List ℕ)). ReadsIfSome old new t) same reads))
-given_unreported set bytes n level (Err fault) judgement old new has is (text, reads, (same, right)) =
-    inl (refl, subst (λ (t : Option (List ℕ)). ReadsIfSome old new t) same reads)
+    IfErr result (λ fault. ((fault ≡ OutOfMemory) × (new ≡ old)) ⊎ ((board : Board) × IsLevelOf bytes n board × Stops old new fault))
+given_unreported set bytes n level board judgement old new result fails has is right =
+    subst (λ r. IfErr r (λ fault. ((fault ≡ OutOfMemory) × (new ≡ old)) ⊎ ((board : Board) × IsLevelOf bytes n board × Stops old new fault)))
+    (sym fails) (by board is right)
+  where
+    by : (board : Result Board LevelFault) → level ≡ Some board →
+        ((text : Option (List ℕ)) × ReadsIfSome old new text × IsJudgedOn true set board text judgement) →
+        ((OutOfMemory ≡ OutOfMemory) × (new ≡ old)) ⊎ ((board : Board) × IsLevelOf bytes n board × Stops old new OutOfMemory)
+    by (Ok lawful) is (text, reads, (read, same, right)) =
+        inr (lawful, (has.0, has.1, sym has.2 ∙ is), stops_after old new read (subst (λ (t : Option (List ℕ)). ReadsIfSome old new t) same reads))
+    by (Err fault) is (text, reads, (same, right)) = inl (refl, subst (λ (t : Option (List ℕ)). ReadsIfSome old new t) same reads)
 
 pub ruleset judged_given = (given_none, given_some, given_stopped, given_unreported)

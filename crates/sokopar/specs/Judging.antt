@@ -93,23 +93,34 @@ IsJudged set board None is.NoneWithin =
 IsJudged set board None is.Unsolvable = (box_count board ≤ MAX_BOXES) × (set.cap ≡ None) × IsUnsolvable board
 IsJudged set board letters (is.TooManyBoxes given) = (MAX_BOXES < box_count board) × IsGiven board letters given
 IsJudged set board letters (is.OutOfMemory given (Some bound)) = IsGiven board letters given × NoneHasFewer board bound
-IsJudged set board (Some letters) (is.Failing verdict) = IsVerdict board letters verdict × IsFailure verdict
+IsJudged set board (Some letters) (is.Replayed verdict) = IsVerdict board letters verdict × IsFailure verdict
 IsJudged set board letters judgement = ⊥
 
+-- the judgement of given letters is right: they are proved, or else only replayed
+abbrev pub IsJudgedGiven : Bool → Settings → Board → List Letter → Judgement → Type 0
+IsJudgedGiven true set board letters judgement = IsJudged set board (Some letters) judgement
+IsJudgedGiven false set board letters (is.Replayed verdict) = IsVerdict board letters verdict
+IsJudgedGiven false set board letters judgement = ⊥
+
 -- the judgement of the text of a solution is right: that of its letters, or its first fault
-abbrev pub IsJudgedText : Settings → Board → List ℕ → Judgement → Type 0
-IsJudgedText set board text judgement =
-    ((letters : List Letter) × IsText text letters × IsJudged set board (Some letters) judgement) ⊎
+abbrev pub IsJudgedText : Bool → Settings → Board → List ℕ → Judgement → Type 0
+IsJudgedText proves set board text judgement =
+    ((letters : List Letter) × IsText text letters × IsJudgedGiven proves set board letters judgement) ⊎
     ((fault : LurdFault) × HasTextFault text fault × (judgement ≡ is.BadText fault))
 
 -- settings without a cap
 abbrev pub uncapped : Settings → Settings
 uncapped set = record { cap = None; limit = set.limit; moves = set.moves }
 
--- the judgement of a level is right, without or with a given solution, which is read only if the level is lawful; then
--- there is no cap
+-- the judgement of a board and its given solution is right; the solution is read only if the board is lawful, and there
+-- is no cap
+abbrev pub IsJudgedWith : Bool → Settings → Result Board LevelFault → Option (List ℕ) → Judgement → Type 0
+IsJudgedWith proves set (Ok board) text judgement =
+    (read : List ℕ) × (text ≡ Some read) × IsJudgedText proves (uncapped set) board read judgement
+IsJudgedWith proves set (Err fault) text judgement = (text ≡ None) × (judgement ≡ is.Faulty fault)
+
+-- the judgement of a board is right, without or with a given solution, which is proved
 abbrev pub IsJudgedOn : Bool → Settings → Result Board LevelFault → Option (List ℕ) → Judgement → Type 0
 IsJudgedOn false set (Ok board) text judgement = (text ≡ None) × IsJudged set board None judgement
-IsJudgedOn true set (Ok board) text judgement =
-    (read : List ℕ) × (text ≡ Some read) × IsJudgedText (uncapped set) board read judgement
-IsJudgedOn given set (Err fault) text judgement = (text ≡ None) × (judgement ≡ is.Faulty fault)
+IsJudgedOn false set (Err fault) text judgement = (text ≡ None) × (judgement ≡ is.Faulty fault)
+IsJudgedOn true set board text judgement = IsJudgedWith true set board text judgement

@@ -1,4 +1,4 @@
--- Reports of `best` and `prove` with a line for each level of a collection.
+-- Reports of `best`, `prove` and `replay` with a line for each level of a collection.
 use Rattle.std.specs.Prelude.{◌≡◌, ℕ, suc, ◌<◌, ◌≤◌, if◌then◌else◌, Bool, true, false, cond, List, [], ◌∷◌, ◌++◌, length, map}
 use Rattle.std.specs.Prelude.{Option, Some, None, is_some, unwrap_or, Result, Ok, Err, codes}
 use Rattle.std.specs.List.{AllZip}
@@ -13,7 +13,7 @@ use Rattle.judging.specs.declared.judgement.Judgement.TheVariants as is
 use Rattle.judging.specs.declared.judgement.Settings.{Settings}
 use Rattle.judging.specs.declared.kind.Kind.{Kind}
 use Rattle.sokopar.specs.Ends.{Seen}
-use Rattle.sokopar.specs.Judging.{IsJudgedOn}
+use Rattle.sokopar.specs.Judging.{IsJudgedOn, IsJudgedWith}
 use Rattle.sokopar.specs.Listing.{Listed, IsListed, IsLevelListing}
 use Rattle.sokopar.specs.Report.{no_level}
 use Rattle.sokopar.specs.Runs.{ReadsIfSome, Stops}
@@ -45,27 +45,27 @@ stopped_by fault = is.CannotRead
 
 -- the judgement of the solution in a file is right: that of what was read, or that reading it stopped. `seen` is what
 -- contracts see of a file
-pub data IsJudgedFile {File : Type 0} (seen : File → Seen) (set : Settings) (board : Result Board LevelFault) (file : File)
-    (judgement : Judgement) : Type 0 where
+pub data IsJudgedFile {File : Type 0} (seen : File → Seen) (proves : Bool) (set : Settings) (board : Result Board LevelFault)
+    (file : File) (judgement : Judgement) : Type 0 where
   unread : (read : File) (fault : RunFault) → Stops (seen file) (seen read) fault → judgement ≡ stopped_by fault →
-      IsJudgedFile seen set board file judgement
+      IsJudgedFile seen proves set board file judgement
   judged : (read : File) (text : Option (List ℕ)) → ReadsIfSome (seen file) (seen read) text →
-      IsJudgedOn true set board text judgement → IsJudgedFile seen set board file judgement
+      IsJudgedWith proves set board text judgement → IsJudgedFile seen proves set board file judgement
 
 -- the judgement of the solution of level n is right, by what opening it gave: there is none; or opening it failed; or it
 -- is in a file, from which nothing was read before. `opened` states what opening the solution of a level gave
 pub data IsJudgedFrom {File : Type 0} (opened : ℕ → Result (Option File) RunFault → Type 0) (seen : File → Seen)
-    (set : Settings) (n : ℕ) (board : Result Board LevelFault) (judgement : Judgement) : Type 0 where
-  missing : opened n (Ok None) → judgement ≡ is.Missing → IsJudgedFrom opened seen set n board judgement
+    (proves : Bool) (set : Settings) (n : ℕ) (board : Result Board LevelFault) (judgement : Judgement) : Type 0 where
+  missing : opened n (Ok None) → judgement ≡ is.Missing → IsJudgedFrom opened seen proves set n board judgement
   unopened : (fault : RunFault) → opened n (Err fault) → judgement ≡ stopped_by fault →
-      IsJudgedFrom opened seen set n board judgement
-  proved : (file : File) → opened n (Ok (Some file)) → (seen file).acts ≡ [] →
-      IsJudgedFile seen set board file judgement → IsJudgedFrom opened seen set n board judgement
+      IsJudgedFrom opened seen proves set n board judgement
+  read : (file : File) → opened n (Ok (Some file)) → (seen file).acts ≡ [] →
+      IsJudgedFile seen proves set board file judgement → IsJudgedFrom opened seen proves set n board judgement
 
--- of `prove` of a folder: a right judgement of its solution
+-- of `prove` or `replay` of a folder: a right judgement of its solution
 abbrev pub IsProveLine : {File : Type 0} → (ℕ → Result (Option File) RunFault → Type 0) → (File → Seen) →
     LevelsRequest → ℕ → Listed → Reported → Type 0
-IsProveLine opened seen request = IsLine (IsJudgedFrom opened seen request.settings) request
+IsProveLine opened seen request = IsLine (IsJudgedFrom opened seen request.proves request.settings) request
 
 -- ---- all levels
 
@@ -102,7 +102,7 @@ has_none (Some folder) kinds = all_missing kinds
 abbrev pub last_line : Option (List ℕ) → LevelsRequest → List Kind → List ℕ
 last_line folder request kinds =
     if has_none folder kinds then line (codes "no solution in " ++ unwrap_or folder []) else
-    if request.table then [] else totals_words (is_some folder) request.settings.cap kinds
+    if request.table then [] else totals_words (is_some folder) request.proves request.settings.cap kinds
 
 -- its exit status
 abbrev pub last_status : Option (List ℕ) → List Kind → ℕ

@@ -12,4 +12,5 @@ pub mod OneReport
 pub mod OneAtMost
 pub mod Retelling
 pub mod Explaining
+pub mod Showing
 pub mod inside

@@ -33,18 +33,15 @@ after_line (b ∷ bytes) = if b == 10 then bytes else after_line bytes
 abbrev pub without_first_line : Report → Report
 without_first_line report = record { text = after_line report.text; status = report.status }
 
--- what is written of such a report: with the flag a report without its first line
-abbrev pub IsWrittenOf : Bool → (Report → Type 0) → Report → Type 0
-IsWrittenOf false IsReport = IsReport
-IsWrittenOf true IsReport = λ written. (report : Report) × IsReport report × (written ≡ without_first_line report)
+-- what is written of the report on what was read: with the flag the report without its first line
+abbrev pub Written : {A : Type 0} → Bool → (A → Report → Type 0) → A → Report → Type 0
+Written false IsReport read report = IsReport read report
+Written true IsReport read report = (whole : Report) × IsReport read whole × (report ≡ without_first_line whole)
 
--- what is written of the report on a collection, and on a collection and a solution
-abbrev pub Written : Bool → (List ℕ → Report → Type 0) → List ℕ → Report → Type 0
-Written lurd IsReport bytes = IsWrittenOf lurd (IsReport bytes)
-
+-- the same of the report on a collection and a solution
 abbrev pub WrittenOfTwo : Bool → (List ℕ → Option (List ℕ) → Report → Type 0) → List ℕ → Option (List ℕ) → Report →
     Type 0
-WrittenOfTwo lurd IsReport bytes solution = IsWrittenOf lurd (IsReport bytes solution)
+WrittenOfTwo lurd IsReport bytes = Written lurd (IsReport bytes)
 
 -- a report of one line
 abbrev pub one_line : List ℕ → ℕ → Report

@@ -30,7 +30,7 @@ fn put_level(text: &mut Text, board: &Board) -> Result<(), AllocError>
 }
 
 /// Appends a name after a space; nothing for the empty name.
-fn put_name(text: &mut Text, name: &[u8]) -> Result<(), AllocError>
+pub(crate) fn put_name(text: &mut Text, name: &[u8]) -> Result<(), AllocError>
     ensures { OnOk result (text.new ≡ text.old ++ named name.now) }
 {
     if name.is_empty() {
@@ -40,14 +40,21 @@ fn put_name(text: &mut Text, name: &[u8]) -> Result<(), AllocError>
     text.put(name)
 }
 
+/// Appends the number of a level and that of its first line.
+pub(crate) fn put_place(text: &mut Text, number: usize, first_line: u32) -> Result<(), AllocError>
+    ensures { OnOk result (text.new ≡ text.old ++ decimal number ++ codes " line " ++ decimal first_line ++ codes " ") }
+{
+    text.put_number(number)?;
+    text.put(b" line ")?;
+    text.put_number(first_line as usize)?;
+    text.put(b" ")
+}
+
 /// Appends the line of a level.
 pub(crate) fn put_line(text: &mut Text, number: usize, entry: &BoardEntry) -> Result<(), AllocError>
     ensures { OnOk result (text.new ≡ text.old ++ check_line number (listed_of entry.now)) }
 {
-    text.put_number(number)?;
-    text.put(b" line ")?;
-    text.put_number(entry.first_line as usize)?;
-    text.put(b" ")?;
+    put_place(text, number, entry.first_line)?;
     match &entry.board {
         Ok(board) => put_level(text, board)?,
         Err(fault) => put_fault(text, *fault)?,
@@ -56,7 +63,7 @@ pub(crate) fn put_line(text: &mut Text, number: usize, entry: &BoardEntry) -> Re
     text.put(b"\n")
 }
 
-/// The number of lawful levels with one level more.
+/// The number of lawful levels, given that of the levels before this one.
 pub(crate) fn good_with(good: usize, entry: &BoardEntry) -> usize
     requires { good ≤ MAX_FILE }
     ensures { result ≡ cond (is_good (listed_of entry.now)) (good + 1) good }
@@ -64,15 +71,24 @@ pub(crate) fn good_with(good: usize, entry: &BoardEntry) -> usize
     if entry.board.is_ok() { good + 1 } else { good }
 }
 
+/// Appends the totals.
+pub(crate) fn put_counts(text: &mut Text, levels: usize, good: usize) -> Result<(), AllocError>
+    ensures { OnOk result
+        (text.new ≡ text.old ++ (decimal levels ++ codes " levels, " ++ decimal good ++ codes " good")) }
+{
+    text.put_number(levels)?;
+    text.put(b" levels, ")?;
+    text.put_number(good)?;
+    text.put(b" good")
+}
+
 /// Appends the line of totals.
 pub(crate) fn put_totals(text: &mut Text, levels: usize, good: usize) -> Result<(), AllocError>
     ensures { OnOk result
         (text.new ≡ text.old ++ line (decimal levels ++ codes " levels, " ++ decimal good ++ codes " good")) }
 {
-    text.put_number(levels)?;
-    text.put(b" levels, ")?;
-    text.put_number(good)?;
-    text.put(b" good\n")
+    put_counts(text, levels, good)?;
+    text.put(b"\n")
 }
 
 /// The report of checking a collection. It makes the line of a board when it reads the board, and then drops the board.

@@ -12,7 +12,8 @@ ghost use Rattle.sokopar.specs.inside.Parts.{IsBeside, IsCompared};
 ghost use Rattle.judging.specs.declared.judgement.MovesClaim.TheVariants.{Open};
 
 use crate::search::{
-    failed, found_known, given_known, improved, judged, search_fewest, with_fewest_pushes,
+    failed, first_found, found_known, given_known, improved, judged, known_at_limit, search_fewest,
+    solved_pushes, with_fewest_pushes,
 };
 use crate::tally::Tally;
 use grid::{Level, MAX_BOXES, Moves};
@@ -101,7 +102,7 @@ fn beside_fewest_pushes(
 }
 
 /// What is known of a solution if the search for the fewest pushes ended at its limit; every solution has at least `bound`
-/// pushes. A search near the solution looks for fewer.
+/// pushes. A search near the solution looks for fewer, and then beams look for fewer still.
 fn beside_open_pushes(
     alloc: Global,
     level: &Level,
@@ -118,34 +119,18 @@ fn beside_open_pushes(
     requires few { box_count level.now ≤ MAX_BOXES }
     ensures { IfOk result (λ known. IsBeside settings level.now (Some given) known) }
 {
-    let at_least = bound as usize;
-    let moves = improved(
-        alloc,
-        level,
-        moves,
-        Aim::FewerPushes,
-        settings.limit as usize,
-    );
-    let verdict = replay(alloc, level, &moves)?;
-    let Verdict::Solved { pushes, .. } = verdict else {
-        return Ok(given_known(Some(given), at_least, MovesClaim::Counted));
+    let Settings { limit, .. } = settings;
+    let near = improved(alloc, level, moves, Aim::FewerPushes, limit as usize);
+    let most = match solved_pushes(alloc, level, &near) {
+        Some(pushes) => pushes.saturating_sub(2),
+        None => 0,
     };
-    if pushes >= given.pushes {
-        return Ok(given_known(Some(given), at_least, MovesClaim::Counted));
-    }
-    if at_least < pushes {
-        return Ok(found_known(Some(given), moves, pushes, at_least, MovesClaim::Counted));
-    }
-    let found = settings.limit as usize;
-    with_fewest_pushes(
-        alloc,
-        level,
-        Some(given),
-        moves,
-        pushes as u32,
-        found,
-        settings,
-    )
+    let cap = u32::try_from(most).unwrap_or(0);
+    let guess = match first_found(alloc, level, bound, Some(cap), limit) {
+        Some(better) => better,
+        None => near,
+    };
+    known_at_limit(alloc, level, Some(given), Some(guess), bound, settings)
 }
 
 /// The judgement of a solution with these numbers of pushes and moves.

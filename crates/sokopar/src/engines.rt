@@ -4,6 +4,7 @@ ghost use Rattle.sokopar.specs.DeadMap.{IsDeadReport};
 ghost use Rattle.sokopar.specs.OneReport.{IsOnlySolveReport};
 ghost use Rattle.sokopar.specs.Report.{IsCheckReport, IsReplayReport, IsShowReport, Written};
 ghost use Rattle.sokopar.specs.Runs.{Runs, RunsInTwo};
+ghost use Rattle.sokopar.specs.Showing.{IsRangeReport};
 
 use crate::check::check_report;
 use crate::dead::dead_in;
@@ -11,6 +12,7 @@ use crate::fault::RunFault;
 use crate::reads::read_whole;
 use crate::replay::replay_in;
 use crate::show::show_in;
+use crate::showing::show_range;
 use crate::sink::Sink;
 use crate::solve::solve_in;
 use crate::source::Source;
@@ -53,6 +55,26 @@ pub fn run_show<S: Source, K: Sink>(
 {
     let bytes = read_whole(alloc, source)?;
     let report = show_in(alloc, bytes.as_slice(), number)?;
+    report.send(sink)
+}
+
+/// Shows the levels of a part of a collection, from the first to the last number, counted from 1: the name of each, its
+/// rows and an empty line. A faulty level is a comment with the line of [`run_check`](crate::run_check). Returns the exit
+/// status: 0 if they are lawful, else 1. If no level has a number of at least `from`, it writes that there is no such
+/// level, and returns 1. The faults are those of [`run_check`](crate::run_check).
+#[tactic(auto, using(crate::proofs::Reading::stops_after))]
+pub fn run_show_range<S: Source, K: Sink>(
+    alloc: Global,
+    source: &mut S,
+    from: u32,
+    to: u32,
+    sink: &mut K,
+) -> Result<u8, RunFault>
+    ensures { Runs (IsRangeReport from to) (S.seen source.old) (S.seen source.new) (K.seen sink.old) (K.seen sink.new)
+        result }
+{
+    let bytes = read_whole(alloc, source)?;
+    let report = show_range(alloc, bytes.as_slice(), from, to)?;
     report.send(sink)
 }
 

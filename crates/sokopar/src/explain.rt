@@ -1,37 +1,40 @@
 //! Explaining the levels of a collection: where and why each is faulty or cannot be solved.
-ghost use Rattle.std.specs.Prelude.{◌≡◌, ℕ, suc, ◌≤◌, ◌++◌, ◌∷◌, [], List, Option, length, IfOk, OnOk, true, false};
+ghost use Rattle.std.specs.Prelude.{◌≡◌, ℕ, suc, ◌+◌, ◌≤◌, ◌++◌, ◌∷◌, [], List, Option, length, IfOk, OnOk, true};
+ghost use Rattle.std.specs.Prelude.{codes, cond, decimal, false};
 ghost use Rattle.sokopar.specs.Entries.{listed_of};
 ghost use Rattle.sokopar.specs.Explaining.{Explains, IsExplainReport, IsRemarkOn, excess_words, explained};
-ghost use Rattle.sokopar.specs.Explaining.{is_drawn, is_quiet, is_wanted};
-ghost use Rattle.sokopar.specs.Listing.{Listed};
-ghost use Rattle.sokopar.specs.Report.{check_line, good_count};
+ghost use Rattle.sokopar.specs.Explaining.{is_drawn, is_quiet, is_unsolvable, is_wanted};
+ghost use Rattle.sokopar.specs.Listing.{IsLevelListing, Listed};
+ghost use Rattle.sokopar.specs.Report.{check_line, good_count, line};
 ghost use Rattle.sokopar.specs.declared.remark.Remark.{Remark};
-ghost use Rattle.sokopar.specs.inside.Explaining.{AreBounded, HaveBroken, board_in};
+ghost use Rattle.sokopar.specs.inside.Explaining.{AreBounded, HaveBroken, board_in, unsolvable_words};
 ghost use Rattle.sokopar.specs.inside.Pages.{IsPage, IsSourceOf, Tells};
 ghost use Rattle.xsb.specs.Collection.{Found, IsJudged};
 ghost use Rattle.xsb.specs.Entries.{IsBoardEntry};
 ghost use Rattle.xsb.specs.inside.Sources.{HasSource};
 
-use crate::check::{good_with, put_line, put_totals};
+use crate::check::{good_with, put_counts, put_line};
 use crate::doomed::remark_of_level;
 use crate::faulty::{Kind, remark_of_fault, squares_with};
 use crate::picture::put_drawn;
 use crate::remark::Remark;
 use crate::report::Report;
-use crate::sentences::{put_broken, put_excess, put_remark};
+use crate::sentences::{put_broken, put_excess, put_foreign, put_remark};
 use crate::show::no_level;
 use grid::{Level, LevelFault};
 use judging::Text;
 use std::alloc::{AllocError, Global};
 use xsb::{
     BoardEntry, BoardRows, BoardSource, BrokenRow, BrokenRows, Collection, Excess, MAX_FILE,
+    first_foreign,
 };
 
-/// The text so far, and whether nothing was found so far.
+/// The text so far, whether nothing was found so far, and how many levels are found unsolvable.
 #[derive(Drop)]
 struct Page {
     text: Text,
     sound: bool,
+    lost: usize,
 }
 
 /// The broken rows that are left.
@@ -113,7 +116,8 @@ fn remark_of(
     match board {
         Ok(level) => {
             let boxes = squares_with(alloc, Kind::Box, rows)?;
-            remark_of_level(alloc, level, boxes.as_slice())
+            let goals = squares_with(alloc, Kind::Goal, rows)?;
+            remark_of_level(alloc, level, boxes.as_slice(), goals.as_slice())
         }
         Err(fault) => remark_of_fault(alloc, *fault, rows),
     }
@@ -134,6 +138,16 @@ fn is_drawn(remark: &Remark, wanted: Option<u32>) -> bool
         Remark::Exit(_) => true,
         _ => wanted.is_some(),
     }
+}
+
+/// The number of levels found unsolvable with one level more.
+fn lost_with(lost: usize, remark: &Remark) -> Result<usize, AllocError>
+    ensures { IfOk result (λ more. more ≡ cond (is_unsolvable remark.now) (lost + 1) lost) }
+{
+    if !remark.is_unsolvable() {
+        return Ok(lost);
+    }
+    lost.checked_add(1).ok_or(AllocError)
 }
 
 /// Appends what is written of a level against which this is found.
@@ -157,6 +171,8 @@ fn put_found(
     page.text.put(head.as_slice())?;
     put_remark(&mut page.text, rows, remark)?;
     page.sound &= remark.is_sound();
+    let lost = lost_with(page.lost, remark)?;
+    page.lost = lost;
     if is_drawn(remark, wanted) {
         return put_drawn(alloc, &mut page.text, rows, board);
     }
@@ -187,7 +203,7 @@ fn put_judged(
 fn put_large(page: &mut Page, head: &Text, excess: Excess) -> Result<(), AllocError>
     ensures { (n : ℕ) (listed : Listed) → head.now ≡ check_line n listed →
         OnOk result ((page.new.text ≡ page.old.text ++ check_line n listed ++ excess_words excess) ×
-        (page.new.sound ≡ false)) }
+        (page.new.sound ≡ false) × (page.new.lost ≡ page.old.lost)) }
 {
     page.text.put(head.as_slice())?;
     put_excess(&mut page.text, excess)?;
@@ -206,8 +222,8 @@ fn put_level(
     requires { (found : Found) × IsSourceOf source found }
     ensures { (bytes : List ℕ) (found : Found) (listing : List Listed) → number ≡ suc (length listing) →
         IsBoardEntry source.entry found → HasSource bytes found source.rows → is_wanted wanted number ≡ true →
-        Explains bytes wanted listing page.old.text page.old.sound →
-        OnOk result (Explains bytes wanted (listing ++ listed_of source.entry ∷ []) page.new.text page.new.sound) }
+        Explains bytes wanted listing page.old.text page.old.sound page.old.lost → OnOk result
+        (Explains bytes wanted (listing ++ listed_of source.entry ∷ []) page.new.text page.new.sound page.new.lost) }
 {
     let BoardSource { entry, rows } = source;
     let head = head_of(alloc, number, &entry)?;
@@ -241,6 +257,47 @@ fn put_next(
     put_level(alloc, page, number, source, wanted)
 }
 
+/// Appends which line of a collection without levels looks like a board of other characters.
+fn put_strange(page: &mut Page, bytes: &[u8], levels: usize) -> Result<(), AllocError>
+    requires { length bytes.now ≤ MAX_FILE }
+    ensures { (wanted : Option ℕ) (listing : List Listed) → levels ≡ length listing →
+        IsLevelListing bytes.now listing →
+        Explains bytes.now wanted listing page.old.text page.old.sound page.old.lost →
+        OnOk result (Explains bytes.now wanted listing page.new.text page.new.sound page.new.lost) }
+{
+    if levels > 0 {
+        return Ok(());
+    }
+    let Some(line) = first_foreign(bytes) else {
+        return Ok(());
+    };
+    put_foreign(&mut page.text, line)?;
+    page.sound = false;
+    Ok(())
+}
+
+/// Appends how many of the levels are found unsolvable, if any.
+fn put_unsolvable(text: &mut Text, lost: usize) -> Result<(), AllocError>
+    ensures { OnOk result (text.new ≡ text.old ++ unsolvable_words lost) }
+{
+    if lost == 0 {
+        return Ok(());
+    }
+    text.put(b", ")?;
+    text.put_number(lost)?;
+    text.put(b" of them unsolvable")
+}
+
+/// Appends the line of totals.
+fn put_summary(text: &mut Text, levels: usize, good: usize, lost: usize) -> Result<(), AllocError>
+    ensures { OnOk result (text.new ≡ text.old ++ line (decimal levels ++ codes " levels, " ++ decimal good ++
+        codes " good" ++ unsolvable_words lost)) }
+{
+    put_counts(text, levels, good)?;
+    put_unsolvable(text, lost)?;
+    text.put(b"\n")
+}
+
 /// The report of what was written.
 fn report_of(
     alloc: Global,
@@ -250,12 +307,16 @@ fn report_of(
     wanted: Option<u32>,
 ) -> Result<Report, AllocError>
     ensures { (listing : List Listed) → levels ≡ length listing → good ≡ good_count listing →
-        IfOk result (λ report. report ≡ explained wanted listing page.text page.sound) }
+        IfOk result (λ report. report ≡ explained wanted listing page.text page.sound page.lost) }
 {
-    let Page { mut text, sound } = page;
+    let Page {
+        mut text,
+        sound,
+        lost,
+    } = page;
     let status = if sound { 0 } else { 1 };
     match wanted {
-        None => put_totals(&mut text, levels, good)?,
+        None => put_summary(&mut text, levels, good, lost)?,
         Some(number) => {
             if levels < number as usize {
                 return no_level(alloc, number);
@@ -279,7 +340,11 @@ pub(crate) fn explain_in(
     };
     let mut broken = broken_of(bytes);
     let text = Text::new(alloc);
-    let mut page = Page { text, sound: true };
+    let mut page = Page {
+        text,
+        sound: true,
+        lost: 0,
+    };
     let mut levels = 0;
     let mut good = 0;
     'boards: loop {
@@ -292,5 +357,6 @@ pub(crate) fn explain_in(
     }
     let shown = is_beside(wanted, levels + 1);
     put_gap(&mut page, &mut broken, u32::MAX, shown)?;
+    put_strange(&mut page, bytes, levels)?;
     report_of(alloc, page, levels, good, wanted)
 }

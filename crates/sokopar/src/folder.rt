@@ -20,7 +20,7 @@ pub trait Folder {
         ensures path { result.now ≡ path_seen self.now };
 
     /// Opens the solution of a level; `None` if there is no such file. Fails with [`RunFault::Read`] if it cannot be
-    /// opened, or if out of memory.
+    /// opened, or with [`RunFault::OutOfMemory`].
     fn open(&self, number: u32) -> Result<Option<Self::File>, RunFault>
         ensures opened { opened self.now number result }
         ensures fresh { IfOk result (λ file. IfSome file (λ file. (Self.File.seen file).acts ≡ [])) }

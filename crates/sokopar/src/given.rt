@@ -1,8 +1,8 @@
 //! The judgement of a given solution.
-ghost use Rattle.std.specs.Prelude.{◌≡◌, ◌≢◌, ◌≤◌, ℕ, true, List, Option, Some, None, Ok, length, IfOk, IfErr, OnOk};
+ghost use Rattle.std.specs.Prelude.{◌≡◌, ◌≢◌, ◌≤◌, ℕ, List, Option, Some, None, Ok, length, IfOk, IfErr, OnOk};
 ghost use Rattle.grid.specs.Board.{Board};
 ghost use Rattle.lurd.specs.declared.limits.TheConstants.{MAX_MOVES};
-ghost use Rattle.sokopar.specs.Judging.{IsJudged, IsJudgedOn, IsJudgedText, uncapped};
+ghost use Rattle.sokopar.specs.Judging.{IsJudged, IsJudgedGiven, IsJudgedText, IsJudgedWith, uncapped};
 ghost use Rattle.sokopar.specs.Levels.{stopped_by};
 ghost use Rattle.sokopar.specs.Runs.{ReadsIfSome, ReadsWhole, Stops};
 
@@ -30,9 +30,9 @@ pub(crate) fn stopped_by(fault: RunFault) -> Judgement
     }
 }
 
-/// The judgement of moves.
+/// The judgement of moves by a search.
 #[tactic(auto, using(crate::proofs::Judging::of_verdict))]
-fn judge_moves<R: Threads + Sync, P: Progress>(
+fn prove_moves<R: Threads + Sync, P: Progress>(
     rt: &R,
     alloc: Global,
     level: &Level,
@@ -61,10 +61,33 @@ fn judge_moves<R: Threads + Sync, P: Progress>(
             let judgement = compare(rt, alloc, level, given, moves, workers, settings, progress);
             Ok(judgement)
         }
-        Verdict::Unsolved { .. } => Ok(Judgement::Failing(verdict)),
-        Verdict::Blocked { .. } => Ok(Judgement::Failing(verdict)),
-        Verdict::WrongCase { .. } => Ok(Judgement::Failing(verdict)),
+        Verdict::Unsolved { .. } => Ok(Judgement::Replayed(verdict)),
+        Verdict::Blocked { .. } => Ok(Judgement::Replayed(verdict)),
+        Verdict::WrongCase { .. } => Ok(Judgement::Replayed(verdict)),
     }
+}
+
+/// The judgement of moves, by a search or by the rules alone.
+#[tactic(auto, using(crate::proofs::Judging::by_search, crate::proofs::Judging::by_replay))]
+fn judge_moves<R: Threads + Sync, P: Progress>(
+    rt: &R,
+    alloc: Global,
+    level: &Level,
+    moves: Moves,
+    proves: bool,
+    workers: u8,
+    settings: Settings,
+    progress: &mut P,
+) -> Result<Judgement, AllocError>
+    requires bound { length moves ≤ MAX_MOVES }
+    requires uncapped { settings.cap ≡ None }
+    ensures { IfOk result (λ judgement. IsJudgedGiven proves settings level.now moves judgement) }
+{
+    if proves {
+        return prove_moves(rt, alloc, level, moves, workers, settings, progress);
+    }
+    let verdict = replay(alloc, level, &moves)?;
+    Ok(Judgement::Replayed(verdict))
 }
 
 /// The judgement of a text with a fault.
@@ -85,15 +108,16 @@ fn judge_text<R: Threads + Sync, P: Progress>(
     alloc: Global,
     level: &Level,
     text: &[u8],
+    proves: bool,
     workers: u8,
     settings: Settings,
     progress: &mut P,
 ) -> Result<Judgement, AllocError>
     requires uncapped { settings.cap ≡ None }
-    ensures { IfOk result (λ judgement. IsJudgedText settings level.now text.now judgement) }
+    ensures { IfOk result (λ judgement. IsJudgedText proves settings level.now text.now judgement) }
 {
     match parse(alloc, text) {
-        Ok(moves) => judge_moves(rt, alloc, level, moves, workers, settings, progress),
+        Ok(moves) => judge_moves(rt, alloc, level, moves, proves, workers, settings, progress),
         Err(fault) => bad_text(fault),
     }
 }
@@ -104,6 +128,7 @@ fn judge_lawful<R: Threads + Sync, T: Source, P: Progress>(
     rt: &R,
     alloc: Global,
     level: &Level,
+    proves: bool,
     workers: u8,
     settings: Settings,
     solution: &mut T,
@@ -111,7 +136,7 @@ fn judge_lawful<R: Threads + Sync, T: Source, P: Progress>(
 ) -> Result<Judgement, RunFault>
     ensures ok { IfOk result (λ judgement. (text : List ℕ) ×
         ReadsWhole (T.seen solution.old) (T.seen solution.new) text ×
-        IsJudgedText (uncapped settings) level.now text judgement) }
+        IsJudgedText proves (uncapped settings) level.now text judgement) }
     ensures err { IfErr result (Stops (T.seen solution.old) (T.seen solution.new)) }
 {
     let Settings { limit, moves, .. } = settings;
@@ -123,18 +148,21 @@ fn judge_lawful<R: Threads + Sync, T: Source, P: Progress>(
         alloc,
         level,
         text.as_slice(),
+        proves,
         workers,
         settings,
         progress,
     )?)
 }
 
-/// The judgement of a board and its solution. It reads the solution to its end if the board is lawful, and not otherwise.
+/// The judgement of a board and its solution, which is proved by a search or only replayed. It reads the solution to its
+/// end if the board is lawful, and not otherwise.
 #[tactic(auto, using(crate::proofs::Judged::on_board))]
 pub(crate) fn judge_given<R: Threads + Sync, T: Source, P: Progress>(
     rt: &R,
     alloc: Global,
     board: &Result<Level, LevelFault>,
+    proves: bool,
     workers: u8,
     settings: Settings,
     solution: &mut T,
@@ -142,12 +170,14 @@ pub(crate) fn judge_given<R: Threads + Sync, T: Source, P: Progress>(
 ) -> Result<Judgement, RunFault>
     ensures ok { IfOk result (λ judgement. (text : Option (List ℕ)) ×
         ReadsIfSome (T.seen solution.old) (T.seen solution.new) text ×
-        IsJudgedOn true settings board.now text judgement) }
+        IsJudgedWith proves settings board.now text judgement) }
     ensures err { IfErr result (λ fault. ((lawful : Board) × (board.now ≡ Ok lawful)) ×
         Stops (T.seen solution.old) (T.seen solution.new) fault) }
 {
     match board {
-        Ok(level) => judge_lawful(rt, alloc, level, workers, settings, solution, progress),
+        Ok(level) => judge_lawful(
+            rt, alloc, level, proves, workers, settings, solution, progress,
+        ),
         Err(fault) => Ok(Judgement::Faulty(*fault)),
     }
 }

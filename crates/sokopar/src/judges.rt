@@ -1,4 +1,4 @@
-//! The judges of `best` of all levels, and of `prove` of a folder.
+//! The judges of `best` of all levels, and of `prove` and `replay` of a folder.
 ghost use denote.Param.Send.{IsSync};
 ghost use Rattle.std.specs.Prelude.{◌≡◌, None, false};
 ghost use Rattle.sokopar.specs.Judging.{IsJudgedOn};
@@ -54,23 +54,26 @@ fn judge_file<R: Threads + Sync, T: Source + Drop, P: Watch>(
     request: LevelsRequest,
     watch: &mut P,
 ) -> Judgement
-    ensures { IsJudgedFile T.seen request.settings board.now file result }
+    ensures { IsJudgedFile T.seen request.proves request.settings board.now file result }
 {
     let LevelsRequest {
+        proves,
         workers,
         settings,
         ..
     } = request;
     let mut file = file;
     watch.begin(number);
-    let judged = judge_given(rt, alloc, board, workers, settings, &mut file, watch);
+    let judged = judge_given(
+        rt, alloc, board, proves, workers, settings, &mut file, watch,
+    );
     match judged {
         Ok(judgement) => judgement,
         Err(fault) => stopped_by(fault),
     }
 }
 
-/// Proves the solutions of a folder.
+/// Proves the solutions of a folder, or only replays them.
 #[derive(Drop)]
 pub(crate) struct Prover<'f, D> {
     pub(crate) folder: &'f D,
@@ -78,7 +81,7 @@ pub(crate) struct Prover<'f, D> {
 }
 
 impl<'f, D: Folder> Judge for Prover<'f, D> {
-    ghost is_right = { λ it. IsJudgedFrom (D.opened it.folder.now) D.File.seen it.request.settings };
+    ghost is_right = { λ it. IsJudgedFrom (D.opened it.folder.now) D.File.seen it.request.proves it.request.settings };
 
     #[tactic(auto, using(crate::proofs::Judged::of_opened))]
     fn judge<R: Threads + Sync, P: Watch>(

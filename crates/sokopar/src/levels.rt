@@ -1,25 +1,23 @@
 //! Reports on the levels of a collection, which are written line by line.
 ghost use Rattle.std.specs.Prelude.{◌≡◌, ◌≤◌, ◌++◌, ◌∷◌, [], length, IfOk, IfErr, OnOk, MatchBool, codes, option_map};
-ghost use Rattle.judging.specs.inside.Entries.{entry_listed};
 ghost use Rattle.sokopar.specs.Entries.{listed_of};
-ghost use Rattle.sokopar.specs.Levels.{BeginsReport, IsBetween, IsLine, IsReport, last_line, last_status};
+ghost use Rattle.sokopar.specs.Levels.{BeginsReport, EndsWith, IsBetween, IsLine, IsReport, last_line, last_status};
+ghost use Rattle.sokopar.specs.Runs.{WritesPart, WritesWhole};
 ghost use Rattle.judging.specs.Words.{line};
-ghost use Rattle.sokopar.specs.inside.Sending.{SendsByLine, SendsJudged, SendsLast, SendsLevel, SendsLevels, SendsLine};
-ghost use Rattle.sokopar.specs.inside.Sending.{StopsByLine};
+ghost use Rattle.sokopar.specs.inside.Sending.{SendsByLine, SendsLevels, StopsByLine};
 
 use crate::fault::RunFault;
 use crate::judge::Judge;
 use crate::proving::LevelsRequest;
+use crate::report::Report;
 use crate::show::no_level;
 use crate::sink::Sink;
 use crate::watch::Watch;
 use crate::writes::write_whole;
-use judging::{
-    Judgement, Kind, Text, all_missing, head_of, put_level_line, put_totals, worst_status,
-};
+use judging::{Kind, Text, all_missing, head_of, put_level_line, put_totals, worst_status};
 use std::alloc::{AllocError, Global};
 use std::thread::Threads;
-use xsb::{BoardEntry, Collection, Entry, MAX_FILE};
+use xsb::{BoardEntry, Collection, MAX_FILE};
 
 /// Whether a number is in a range, both ends included.
 fn is_between(from: u32, to: u32, number: u32) -> bool
@@ -30,7 +28,8 @@ fn is_between(from: u32, to: u32, number: u32) -> bool
 
 /// Writes a line.
 fn send_line<K: Sink>(line: &[u8], sink: &mut K) -> Result<(), RunFault>
-    ensures { SendsLine line.now (K.seen sink.old) (K.seen sink.new) result }
+    ensures ok { OnOk result (WritesWhole (K.seen sink.old) (K.seen sink.new) line.now) }
+    ensures err { IfErr result (λ fault. (fault ≡ RunFault.Write) × WritesPart (K.seen sink.old) (K.seen sink.new) line.now) }
 {
     match write_whole(sink, line) {
         Ok(()) => Ok(()),
@@ -38,27 +37,33 @@ fn send_line<K: Sink>(line: &[u8], sink: &mut K) -> Result<(), RunFault>
     }
 }
 
-/// Writes the line of a level.
-#[tactic(auto, using(crate::proofs::ByLine::line_sent))]
-fn send_judged<K: Sink>(
+/// Judges a level. Returns its line, and how it counts.
+#[tactic(auto, using(crate::proofs::ByLine::line_judged))]
+fn line_of<R: Threads + Sync, J: Judge, P: Watch>(
+    rt: &R,
+    judge: &J,
     alloc: Global,
     request: LevelsRequest,
     number: u32,
-    entry: &Entry,
-    judgement: &Judgement,
-    sink: &mut K,
-) -> Result<(), RunFault>
-    ensures { SendsJudged request number (entry_listed entry.now) judgement.now (K.seen sink.old) (K.seen sink.new)
-        result }
+    board: BoardEntry,
+    watch: &mut P,
+) -> Result<(Text, Kind), AllocError>
+    requires { 1 ≤ number }
+    ensures { IfOk result (λ one. IsLine (J.is_right judge.now) request number (listed_of board)
+        (record { text = one.0; kind = one.1 })) }
 {
-    let LevelsRequest {
-        table,
-        settings,
-        ..
-    } = request;
+    let entry = board.into_entry(alloc)?;
+    let judgement = judge.judge(rt, alloc, number, &entry.board, watch);
     let mut text = Text::new(alloc);
-    put_level_line(&mut text, table, settings, number, entry, judgement)?;
-    send_line(text.as_slice(), sink)
+    put_level_line(
+        &mut text,
+        request.table,
+        request.settings,
+        number,
+        &entry,
+        &judgement,
+    )?;
+    Ok((text, judgement.kind()))
 }
 
 /// Keeps how a level counts.
@@ -69,30 +74,9 @@ fn keep(kinds: &mut Vec<Kind>, kind: Kind) -> Result<(), AllocError>
     Ok(())
 }
 
-/// Judges a level, and writes its line. Keeps how the level counts.
-fn send_level<R: Threads + Sync, J: Judge, P: Watch, K: Sink>(
-    rt: &R,
-    judge: &J,
-    alloc: Global,
-    request: LevelsRequest,
-    number: u32,
-    board: BoardEntry,
-    kinds: &mut Vec<Kind>,
-    watch: &mut P,
-    sink: &mut K,
-) -> Result<(), RunFault>
-    requires { 1 ≤ number }
-    ensures { SendsLevel (IsLine (J.is_right judge.now) request) number (listed_of board) kinds.old.items kinds.new.items
-        (K.seen sink.old) (K.seen sink.new) result }
-{
-    let entry = board.into_entry(alloc)?;
-    let judgement = judge.judge(rt, alloc, number, &entry.board, watch);
-    keep(kinds, judgement.kind())?;
-    send_judged(alloc, request, number, &entry, &judgement, sink)
-}
-
 /// Writes the first line of a table or none, and then judges the levels of a range one after the other, and writes the
 /// line of each before it goes on. Keeps how they count, and returns the number of levels of the collection.
+#[tactic(auto, using(crate::proofs::ByLine::reported_none))]
 fn send_levels<R: Threads + Sync, J: Judge, P: Watch, K: Sink>(
     rt: &R,
     judge: &J,
@@ -121,7 +105,9 @@ fn send_levels<R: Threads + Sync, J: Judge, P: Watch, K: Sink>(
         };
         number += 1;
         if is_between(request.from, request.to, number) {
-            send_level(rt, judge, alloc, request, number, board, kinds, watch, sink)?;
+            let (text, kind) = line_of(rt, judge, alloc, request, number, board, watch)?;
+            keep(kinds, kind)?;
+            send_line(text.as_slice(), sink)?;
         }
     }
     Ok(number)
@@ -149,8 +135,8 @@ fn put_last(
     match folder {
         Some(path) if all_missing(kinds) => put_none_in(text, path),
         _ if request.table => Ok(()),
-        Some(_) => put_totals(text, true, cap, kinds),
-        None => put_totals(text, false, cap, kinds),
+        Some(_) => put_totals(text, true, request.proves, cap, kinds),
+        None => put_totals(text, false, request.proves, cap, kinds),
     }
 }
 
@@ -164,25 +150,26 @@ fn last_status(folder: Option<&[u8]>, kinds: &[Kind]) -> u8
     }
 }
 
-/// Writes the last line: that the collection, with this number of levels, has none with the first number of the range;
-/// else this one. Returns the exit status, which is the last one if there is such a level.
-#[tactic(auto, using(crate::proofs::ByLine::last_beyond, crate::proofs::ByLine::last_within, crate::proofs::ByLine::last_stopped))]
-fn send_last<K: Sink>(
+/// The end of a report: that the collection, with this number of levels, has none with the first number of the range;
+/// else the last line and the exit status.
+#[tactic(auto, using(crate::proofs::ByLine::ends_beyond, crate::proofs::ByLine::ends_within))]
+fn end_of(
     alloc: Global,
-    from: u32,
+    folder: Option<&[u8]>,
+    request: LevelsRequest,
     levels: u32,
-    last: &[u8],
-    worst: u8,
-    sink: &mut K,
-) -> Result<u8, RunFault>
-    ensures { SendsLast from levels last.now worst (K.seen sink.old) (K.seen sink.new) result }
+    kinds: &[Kind],
+) -> Result<Report, AllocError>
+    ensures { IfOk result (λ end. EndsWith request.from levels
+        (last_line (option_map (λ path. path.now) folder.entry) request kinds.now)
+        (last_status (option_map (λ path. path.now) folder.entry) kinds.now) end.text end.status) }
 {
-    if levels < from {
-        let report = no_level(alloc, from)?;
-        return report.send(sink);
+    if levels < request.from {
+        return no_level(alloc, request.from);
     }
-    send_line(last, sink)?;
-    Ok(worst)
+    let mut text = Text::new(alloc);
+    put_last(&mut text, folder, request, kinds)?;
+    Ok(Report::new(text, last_status(folder, kinds)))
 }
 
 /// Writes the report on the levels of a range: the line of each as soon as it is known. `folder` is the path of the folder
@@ -205,8 +192,6 @@ pub(crate) fn send_report<R: Threads + Sync, J: Judge, P: Watch, K: Sink>(
 {
     let mut kinds = Vec::new(alloc);
     let levels = send_levels(rt, judge, alloc, bytes, request, &mut kinds, watch, sink)?;
-    let mut last = Text::new(alloc);
-    put_last(&mut last, folder, request, kinds.as_slice())?;
-    let worst = last_status(folder, kinds.as_slice());
-    send_last(alloc, request.from, levels, last.as_slice(), worst, sink)
+    let end = end_of(alloc, folder, request, levels, kinds.as_slice())?;
+    end.send(sink)
 }

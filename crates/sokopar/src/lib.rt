@@ -1,5 +1,6 @@
-//! The engines of the program: each reads its files to their end, makes a whole report and writes it. Use them to run
-//! a command over memory or any other [`Source`] and [`Sink`]. A report takes memory in proportion to its length.
+//! The engines of the program: each reads its files to their end, and writes a whole report, or one on several levels
+//! line by line. Use them to run a command over memory or any other [`Source`] and [`Sink`]. A report takes memory in
+//! proportion to its length.
 //!
 //! With `file`, the bytes of a collection:
 //!
@@ -45,6 +46,7 @@ mod report;
 mod search;
 mod sentences;
 mod show;
+mod showing;
 mod sink;
 mod solve;
 mod source;
@@ -54,7 +56,8 @@ mod watch;
 mod writes;
 
 pub use engines::{
-    SolveRequest, run_check, run_dead, run_replay, run_show, run_solve, run_solve_with,
+    SolveRequest, run_check, run_dead, run_replay, run_show, run_show_range, run_solve,
+    run_solve_with,
 };
 pub use explaining::run_explain;
 pub use fault::RunFault;

@@ -46,16 +46,11 @@ pub(crate) fn best_in<R: Threads + Sync, P: Progress>(
     requires bound { length bytes.now ≤ MAX_FILE }
     ensures { IfOk result (λ report. IsLevelReport false request.settings request.number bytes.now None report) }
 {
-    let LevelRequest {
-        number,
-        workers,
-        settings,
-        ..
-    } = request;
-    match level_of(alloc, bytes, number)? {
-        None => no_level(alloc, number),
+    let settings = request.settings;
+    match level_of(alloc, bytes, request.number)? {
+        None => no_level(alloc, request.number),
         Some(board) => {
-            let judgement = judge_board(rt, alloc, &board, workers, settings, progress);
+            let judgement = judge_board(rt, alloc, &board, request.workers, settings, progress);
             report_of(alloc, settings, &judgement)
         }
     }
@@ -81,16 +76,14 @@ pub(crate) fn prove_in<R: Threads + Sync, T: Source, P: Progress>(
         ⊎ ((board : Board) × IsLevelOf bytes.now request.number board ×
         Stops (T.seen solution.old) (T.seen solution.new) fault)) }
 {
-    let LevelRequest {
-        number,
-        workers,
-        settings,
-        ..
-    } = request;
-    match level_of(alloc, bytes, number)? {
-        None => Ok(no_level(alloc, number)?),
+    let workers = request.workers;
+    let settings = request.settings;
+    match level_of(alloc, bytes, request.number)? {
+        None => Ok(no_level(alloc, request.number)?),
         Some(board) => {
-            let judgement = judge_given(rt, alloc, &board, workers, settings, solution, progress)?;
+            let judgement = judge_given(
+                rt, alloc, &board, true, workers, settings, solution, progress,
+            )?;
             Ok(report_of(alloc, settings, &judgement)?)
         }
     }

@@ -32,12 +32,14 @@ pub struct LevelRequest {
 }
 
 /// The first and the last level for [`run_best_collection`] or [`run_prove_collection`], counted from 1, whether a table
-/// is written, and the settings of each search. Levels that the collection lacks are left out.
+/// is written, whether given solutions are proved by a search or only replayed, and the settings of each search. Levels
+/// that the collection lacks are left out.
 #[derive(Clone, Copy, PartialEq, Eq, Debug)]
 pub struct LevelsRequest {
     pub from: u32,
     pub to: u32,
     pub table: bool,
+    pub proves: bool,
     pub workers: u8,
     pub settings: Settings,
 }
@@ -147,6 +149,9 @@ pub fn run_prove<R: Threads + Sync, S: Source, T: Source, P: Watch, K: Sink>(
 /// memory, else 3 if a solution cannot be read, else 4 if a search ended at its limit, else 1. If no level has a number
 /// of at least `from`, it writes that there is no such level, and returns 1. If the folder has no solution of any level
 /// of the range, it writes so in place of the totals, and returns 1.
+///
+/// If the request says that solutions are only replayed, it writes the report of [`run_replay`](crate::run_replay) in one
+/// line, for any number of boxes, without a search. Then it returns 0 if all solutions solve their levels.
 ///
 /// A table has a head line, a line with the columns of each of these levels, and no totals.
 ///

@@ -1,5 +1,5 @@
 //! The searches of `best`, and what is known after them.
-ghost use Rattle.std.specs.Prelude.{◌≡◌, ◌≤◌, ◌<◌, false, None, IfOk, IfSome, length};
+ghost use Rattle.std.specs.Prelude.{◌≡◌, ◌≤◌, ◌<◌, false, None, IfOk, IfSome, IsTrue, length};
 ghost use Rattle.grid.specs.Board.{Board};
 ghost use Rattle.grid.specs.Lawful.{box_count};
 ghost use Rattle.lurd.specs.Verdict.{IsVerdict};
@@ -10,14 +10,15 @@ ghost use Rattle.prover.specs.Outcomes.{IsOutcome};
 ghost use Rattle.prices.specs.Searching.{SomeHas};
 ghost use Rattle.shortest.specs.Improving.{IsNoWorse};
 ghost use Rattle.shortest.specs.Outcomes.{IsMovesOutcome};
-ghost use Rattle.sokopar.specs.Judging.{IsJudged, IsJudgedOn, IsWithinCap};
+ghost use Rattle.sokopar.specs.Judging.{IsJudged, IsJudgedOn, IsOpen, IsWithinCap};
 ghost use Rattle.sokopar.specs.inside.Parts.{IsBeside, IsCompared, failed, found_known, given_known};
 
 use crate::tally::Tally;
 use grid::{Level, LevelFault, MAX_BOXES, Moves};
 use judging::{Counts, Judgement, Known, MovesClaim, Settings, Solution};
+use lurd::{Verdict, replay};
 use prover::{Outcome, Progress, SearchFault};
-use shortest::{Aim, MovesOutcome, improve, search_moves};
+use shortest::{Aim, MovesOutcome, first_solution, improve, search_moves};
 use std::alloc::{AllocError, Global};
 use std::thread::Threads;
 
@@ -158,6 +159,100 @@ pub(crate) fn with_fewest_pushes(
     }
 }
 
+/// A solution that beams find after a search ended at its limit, with no more pushes than the cap, or a better one near
+/// it. It is a guess.
+pub(crate) fn first_found(
+    alloc: Global,
+    level: &Level,
+    at_least: u32,
+    cap: Option<u32>,
+    limit: u32,
+) -> Option<Moves> {
+    let found = limit as usize;
+    match first_solution(alloc, level, at_least, cap, found / 2) {
+        Ok(Some(moves)) => Some(improved(alloc, level, moves, Aim::FewerPushes, found)),
+        _ => None,
+    }
+}
+
+/// The number of pushes of moves that solve the level. `None` if they do not, or if it runs out of memory.
+pub(crate) fn solved_pushes(alloc: Global, level: &Level, moves: &Moves) -> Option<usize>
+    ensures { IfSome result (λ pushes. IsVerdict level.now moves.now (Solved pushes (length moves.now))) }
+{
+    let Ok(verdict) = replay(alloc, level, moves) else {
+        return None;
+    };
+    let Verdict::Solved { pushes, .. } = verdict else {
+        return None;
+    };
+    Some(pushes)
+}
+
+/// Whether a solution with this many pushes is within the cap and has fewer than the given one.
+fn is_wanted(pushes: usize, cap: Option<u32>, given: Option<Counts>) -> bool
+    ensures { IsTrue result → IsWithinCap cap pushes × IfSome given (λ (s : CountsOf). pushes < s.pushes) }
+{
+    if let Some(most) = cap {
+        if pushes > most as usize {
+            return false;
+        }
+    }
+    match given {
+        Some(given) => pushes < given.pushes,
+        None => true,
+    }
+}
+
+/// A guess with its pushes, if it solves the level within the cap and with fewer pushes than the given solution.
+fn checked(
+    alloc: Global,
+    level: &Level,
+    guess: Option<Moves>,
+    cap: Option<u32>,
+    given: Option<Counts>,
+) -> Option<(Moves, usize)>
+    ensures { IfSome result (λ it. IsVerdict level.now it.0 (Solved it.1 (length it.0)) × IsWithinCap cap it.1 ×
+        IfSome given (λ (s : CountsOf). it.1 < s.pushes)) }
+{
+    let Some(moves) = guess else {
+        return None;
+    };
+    let Some(pushes) = solved_pushes(alloc, level, &moves) else {
+        return None;
+    };
+    if !is_wanted(pushes, cap, given) {
+        return None;
+    }
+    Some((moves, pushes))
+}
+
+/// What is known once a search for the fewest pushes has ended at its limit, with a guess of a solution; every solution has
+/// at least `bound` pushes.
+pub(crate) fn known_at_limit(
+    alloc: Global,
+    level: &Level,
+    given: Option<Counts>,
+    guess: Option<Moves>,
+    bound: u32,
+    settings: Settings,
+) -> Result<Known, AllocError>
+    requires least { NoneHasFewer level.now bound }
+    requires open { IsOpen settings level.now bound }
+    requires more { IfSome given (λ (s : CountsOf). bound < s.pushes) }
+    requires few { box_count level.now ≤ MAX_BOXES }
+    ensures { IfOk result (λ known. IsBeside settings level.now given known) }
+{
+    let at_least = bound as usize;
+    let Some((moves, pushes)) = checked(alloc, level, guess, settings.cap, given) else {
+        return Ok(given_known(given, at_least, MovesClaim::Counted));
+    };
+    if at_least < pushes {
+        return Ok(found_known(given, moves, pushes, at_least, MovesClaim::Counted));
+    }
+    let found = settings.limit as usize;
+    with_fewest_pushes(alloc, level, given, moves, pushes as u32, found, settings)
+}
+
 /// The judgement of a level after a search for the fewest pushes that found this many positions.
 fn judge_outcome(
     alloc: Global,
@@ -178,7 +273,10 @@ fn judge_outcome(
         Outcome::NoneWithin => Judgement::NoneWithin,
         Outcome::Unsolvable => Judgement::Unsolvable,
         Outcome::Limit { at_least } => {
-            Judgement::Searched(given_known(None, at_least as usize, MovesClaim::Counted))
+            let Settings { cap, limit, .. } = settings;
+            let guess = first_found(alloc, level, at_least, cap, limit);
+            let known = known_at_limit(alloc, level, None, guess, at_least, settings);
+            judged(known, None, at_least as usize)
         }
     }
 }

@@ -1,4 +1,4 @@
-ghost use Rattle.std.specs.Prelude.{◌≡◌, ◌++◌, ◌≤◌, OnOk, IfOk, length};
+ghost use Rattle.std.specs.Prelude.{◌≡◌, ◌++◌, ◌≤◌, OnOk, IfOk, Some, length};
 ghost use Rattle.sokopar.specs.OneReport.{IsOnlySolveReport};
 ghost use Rattle.sokopar.specs.Report.{too_many_boxes};
 ghost use Rattle.sokopar.specs.Solving.{answer_report, IsSolveOf};
@@ -10,7 +10,7 @@ use crate::report::Report;
 use crate::show::lawful_level;
 use crew::{Config, Gate};
 use grid::Level;
-use judging::{NoneWithin, Number, Text};
+use judging::{Counts, NoneWithin, Number, Text};
 use solo::{Answer, SolveFault};
 use std::alloc::{AllocError, Global};
 use std::fmt;
@@ -29,46 +29,35 @@ fn too_many_boxes(alloc: Global) -> Result<Report, AllocError>
 
 /// An answer in words, under a cap of pushes and a limit of positions.
 #[derive(Drop)]
-struct AnswerWords<'a> {
-    answer: &'a Answer,
-    cap: Option<u32>,
-    limit: u32,
-}
+struct AnswerWords<'a>(&'a Answer, Option<u32>, u32);
 
 impl fmt::Display for AnswerWords<'_> {
-    ghost use Rattle.std.specs.Prelude.{Some};
-    ghost use Rattle.sokopar.specs.inside.Parts.{answer_words};
-
-    ghost output = { λ it. Some (answer_words it.cap it.limit it.answer.now) };
+    ghost output = { λ it. Some (answer_words it.1 it.2 it.0.now) };
 
     fn fmt<W: fmt::Write>(&self, f: &mut fmt::Formatter<W>) -> fmt::Result {
-        match self.answer {
+        match self.0 {
             Answer::Solved {
                 moves,
                 pushes,
                 positions,
             } => {
-                let pushes = Number(*pushes as usize);
-                let moves = Number(moves.len());
+                let pushes = *pushes as usize;
+                let moves = moves.len();
                 let positions = Number(*positions as usize);
                 write!(
                     f,
-                    "solved {pushes} pushes, {moves} moves, {positions} positions"
+                    "solved {}, {positions} positions",
+                    Counts { pushes, moves }
                 )
             }
             Answer::Unsolvable { positions } => {
-                let positions = Number(*positions as usize);
-                write!(f, "unsolvable, {positions} positions")
+                write!(f, "unsolvable, {} positions", Number(*positions as usize))
             }
             Answer::NoneWithin { positions } => {
-                let none = NoneWithin(self.cap);
                 let positions = Number(*positions as usize);
-                write!(f, "{none}, {positions} positions")
+                write!(f, "{}, {positions} positions", NoneWithin(self.1))
             }
-            Answer::Limit => {
-                let limit = Number(self.limit as usize);
-                write!(f, "limit {limit} reached")
-            }
+            Answer::Limit => write!(f, "limit {} reached", Number(self.2 as usize)),
         }
     }
 }
@@ -82,7 +71,7 @@ fn put_answer(
 ) -> Result<(), AllocError>
     ensures { OnOk result (text.new ≡ text.old ++ answer_words cap limit answer.now) }
 {
-    text.show(&AnswerWords { answer, cap, limit })
+    text.show(&AnswerWords(answer, cap, limit))
 }
 
 /// The report of an answer under a cap of pushes and a limit of positions.

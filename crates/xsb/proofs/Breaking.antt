@@ -1,20 +1,23 @@
 -- Where a line breaks, and readers of lines.
 use Rattle.std.proofs.Common.{◌≡◌, ℕ, ◌+◌, ◌-◌, ◌≤◌, Bool, true, false, List, [], ◌∷◌, ◌++◌, length, take, drop, refl, sym, ap, ◌∙◌, arith}
-use Rattle.std.proofs.Common.{length-append, append_assoc, subst, slice_get, Option, Some, None, IfNone, MatchBool, Contains, is_some, inl, inr}
+use Rattle.std.proofs.Common.{length-append, append_assoc, subst, append-nil, slice_get, Option, Some, None, IfNone, MatchBool, is_some, inl, inr}
+use Rattle.std.proofs.Common.{encode_utf8, eqb, ◌<◌}
 use Rattle.std.proofs.lemmas.List.Folds.{length-prefix_len}
+use Rattle.std.proofs.lemmas.Slice.Eq.{starts_is}
+use Rattle.std.specs.List.{starts_with}
 use Rattle.counts.specs.Counts.{AreDigits, decimal}
 use Rattle.counts.specs.NoCount.{IsNoCount}
 use Rattle.counts.proofs.lemmas.Digits.{digits_in_front}
-use Rattle.std.proofs.lemmas.Bool.{cases_lt, false≢true}
+use Rattle.std.proofs.lemmas.Bool.{cases_lt, eq-eqb, eqb-true, false≢true}
 use Rattle.std.specs.Char.{is_ascii_digit}
 use Rattle.std.specs.List.{prefix_len}
 use Rattle.grid.specs.declared.cell.Cell.{Cell}
-use Rattle.xsb.specs.Breaks.{AreItems, nothing, bar, item, BreaksAt, IsBroken, IsCause, IsRowAt, digits_of}
+use Rattle.xsb.specs.Breaks.{AreItems, nothing, bar, item, IsBroken, IsCause, IsRowAt, HasFlaw, digits_of}
 use Rattle.xsb.specs.Places.{IsLineOf}
 use Rattle.xsb.specs.Rows.{IsRowLine, IsTextLine}
 use Rattle.xsb.specs.declared.breaks.BrokenRows.{BrokenRows}
-use Rattle.xsb.specs.declared.breaks.Cause.{Cause}
 use Rattle.xsb.specs.declared.breaks.Cause.TheVariants.{ZeroCount}
+use Rattle.xsb.specs.declared.breaks.Flaw.{Flaw}
 use Rattle.xsb.specs.declared.items.Run.{Run}
 use Rattle.xsb.specs.declared.lines.Lines.{Lines}
 use Rattle.xsb.specs.inside.Breaking.{IsPastLine}
@@ -99,16 +102,25 @@ IsPastLine-next {bytes} {old} new line here next e f is = record {
       subst (λ k. IsRowAt bytes k) (sym n) (line, IsLineOf-next line here next, row.0, row.1);
 }
 
--- a line that breaks
-pub IsBroken-here : {bytes : List ℕ} (old new : BrokenRows) (line : List ℕ) (byte : ℕ) (cause : Cause) (parts : Bool) → IsPastLine bytes old →
-    IsNextLine old.lines.rest line → IsTextLine line × Contains line 35 × BreaksAt line byte cause → new.lines.number ≡ old.lines.number + 1 →
+-- a line with a flaw
+pub IsBroken-here : {bytes : List ℕ} (old new : BrokenRows) (line : List ℕ) (flaw : Flaw) (parts : Bool) → IsPastLine bytes old →
+    IsNextLine old.lines.rest line → IsTextLine line × HasFlaw line flaw → new.lines.number ≡ old.lines.number + 1 →
     (parts ≡ true → old.after_row ≡ true) → (parts ≡ true → IsRowAt bytes new.lines.number) →
-    IsBroken bytes (record { line = old.lines.number; byte = byte; cause = cause; parts = parts })
-IsBroken-here {bytes} old new line byte cause parts past next is number before after = record {
+    IsBroken bytes (record { line = old.lines.number; flaw = flaw; parts = parts })
+IsBroken-here {bytes} old new line flaw parts past next is number before after = record {
   text = line;
   is_line = IsLineOf-next line past.lines next;
   is_text = is.0;
-  wall = is.1;
-  breaks = is.2;
+  flaw = is.1;
   parts = λ told. (past.after_row (before told), subst (λ n. IsRowAt bytes n) number (after told));
 }
+
+-- a line of which all is passed
+pub IsPassed-all : {line rest : List ℕ} → IsPassed line rest → rest ≡ [] → AreItems line
+IsPassed-all {line} {rest} is e = subst AreItems (sym (is.whole ∙ ap (λ r. is.before ++ r) e ∙ append-nil is.before)) is.items
+
+-- a character whose bytes come first
+pub spelled-first : (bytes text : List ℕ) (c : ℕ) (is_first : Bool) → text ≡ encode_utf8 c → is_first ≡ starts_with eqb bytes text → is_first ≡ true →
+    127 < c → (rest : List ℕ) × (bytes ≡ encode_utf8 c ++ rest) × (127 < c)
+spelled-first bytes text c is_first spells told is far =
+    (drop (length text) bytes, (starts_is (λ a b. (eqb-true a b, eq-eqb a b)) bytes text is_first told).0 is ∙ ap (λ t. t ++ drop (length text) bytes) spells, far)

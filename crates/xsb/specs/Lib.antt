@@ -6,6 +6,7 @@ pub mod Collection
 pub mod Entries
 pub mod Places
 pub mod Breaks
+pub mod Foreign
 pub mod Written
 pub mod Rereading
 pub mod inside

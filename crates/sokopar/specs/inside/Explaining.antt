@@ -1,5 +1,6 @@
 -- The parts of what `explain` writes that functions of their own find.
-use Rattle.std.specs.Prelude.{◌≡◌, ℕ, ◌≤◌, Bool, true, false, List, length, drop, Option, IfSome}
+use Rattle.std.specs.Prelude.{◌≡◌, ◌≢◌, ◌==◌, ℕ, ◌/◌, ◌%◌, ◌≤◌, Bool, true, false, cond, nat_lt}
+use Rattle.std.specs.Prelude.{List, [], ◌∷◌, ◌++◌, codes, decimal, length, drop, Option, IfSome}
 use Rattle.grid.specs.declared.cell.Cell.{Cell}
 use Rattle.grid.specs.declared.fault.LevelFault.{LevelFault}
 use Rattle.grid.specs.declared.fault.LevelFault.TheVariants.{NoBox, Counts, Open}
@@ -14,6 +15,11 @@ use Rattle.xsb.specs.declared.breaks.BrokenRow.{BrokenRow}
 use Rattle.xsb.specs.declared.breaks.BrokenRows.{BrokenRows}
 use Rattle.xsb.specs.declared.places.BoardRows.{BoardRows}
 use Rattle.xsb.specs.inside.Breaking.{IsPastLine}
+use Rattle.sokopar.specs.Explaining.{AreIn, endangered}
+use Rattle.sokopar.specs.declared.remark.Plight.{Plight}
+use Rattle.sokopar.specs.declared.remark.Plight.TheVariants.{Unreached, Unfilled, OnDead}
+use Rattle.sokopar.specs.Report.{line}
+use Rattle.std.specs.Fmt.{digit_glyph}
 use Rattle.sokopar.specs.declared.faulty.Kind.{Kind}
 use Rattle.sokopar.specs.declared.faulty.Kind.TheVariants.{Player, Box, Goal}
 
@@ -65,3 +71,32 @@ pub record AreFrozen (board : Board) (boxes few : Squares) : Type 0 where
 pub record HaveBroken (bytes : List ℕ) (rows : BrokenRows) (next : Option BrokenRow) : Type 0 where
   pub rest : IsPastLine bytes rows
   pub first : IfSome next (IsBroken bytes)
+
+-- no square is in any plight
+abbrev pub AreSafe : Board → Type 0
+AreSafe board = (plight : Plight) → AreIn board plight (endangered board plight) []
+
+-- some squares are in this plight, all of those that are
+abbrev pub IsLostBy : Board → Plight → Squares → Type 0
+IsLostBy board plight squares = AreIn board plight (endangered board plight) squares × (squares ≢ [])
+
+-- why the box or the goal on a square makes a level unsolvable
+abbrev pub plight_words : Plight → List ℕ
+plight_words Unreached = codes "unsolvable: the player never gets to the box"
+plight_words Unfilled = codes "unsolvable: no box gets to the goal"
+plight_words OnDead = codes "unsolvable: a box is on a dead square"
+
+-- the code of a character in hexadecimal digits, four to six
+abbrev pub code_digits : ℕ → List ℕ
+code_digits c = cond (nat_lt 0xFFFFF c) (digit_glyph true (c / 0x100000 % 16) ∷ []) [] ++
+    cond (nat_lt 0xFFFF c) (digit_glyph true (c / 0x10000 % 16) ∷ []) [] ++
+    digit_glyph true (c / 0x1000 % 16) ∷ digit_glyph true (c / 0x100 % 16) ∷ digit_glyph true (c / 0x10 % 16) ∷
+    digit_glyph true (c % 16) ∷ []
+
+-- how many of the levels are found unsolvable, if any
+abbrev pub unsolvable_words : ℕ → List ℕ
+unsolvable_words lost = cond (lost == 0) [] (codes ", " ++ decimal lost ++ codes " of them unsolvable")
+
+-- the line of a row of other characters
+abbrev pub foreign_line : ℕ → List ℕ
+foreign_line n = line (codes "line " ++ decimal n ++ codes " looks like a board of other characters")

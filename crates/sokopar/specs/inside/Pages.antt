@@ -1,5 +1,5 @@
 -- How `explain` goes from level to level.
-use Rattle.std.specs.Prelude.{◌≡◌, ℕ, suc, ◌++◌, Bool, true, ◌&&◌, List, Option, Some, None}
+use Rattle.std.specs.Prelude.{◌≡◌, ℕ, suc, ◌+◌, ◌++◌, Bool, true, cond, ◌&&◌, List, Option, Some, None}
 use Rattle.grid.specs.Board.{Board}
 use Rattle.xsb.specs.Collection.{Found, IsJudged}
 use Rattle.xsb.specs.declared.breaks.BrokenRow.{BrokenRow}
@@ -8,7 +8,7 @@ use Rattle.xsb.specs.declared.places.BoardSource.{BoardSource}
 use Rattle.xsb.specs.declared.places.RowPlace.{RowPlace}
 use Rattle.xsb.specs.inside.Breaking.{rows_left}
 use Rattle.xsb.specs.inside.Sources.{HasRowsFor}
-use Rattle.sokopar.specs.Explaining.{Explains, IsPicture, is_drawn, is_sound, level_text}
+use Rattle.sokopar.specs.Explaining.{Explains, IsPicture, is_drawn, is_sound, is_unsolvable, level_text}
 use Rattle.sokopar.specs.Listing.{Listed}
 use Rattle.sokopar.specs.declared.explain.Broken.{Broken}
 use Rattle.sokopar.specs.declared.explain.Page.{Page}
@@ -17,18 +17,19 @@ use Rattle.sokopar.specs.inside.Explaining.{HaveBroken}
 
 -- the levels so far are explained, and the broken rows that are left are known
 pub record IsPage (bytes : List ℕ) (wanted : Option ℕ) (listing : List Listed) (page : Page) (gaps : Broken) : Type 0 where
-  pub text : Explains bytes wanted listing page.text page.sound
+  pub text : Explains bytes wanted listing page.text page.sound page.lost
   pub broken : HaveBroken bytes gaps.rows gaps.first
 
--- text is added to a page, and something is found or not
-abbrev pub Adds : List ℕ → Bool → Page → Page → Type 0
-Adds more sound old new = (new.text ≡ old.text ++ more) × (new.sound ≡ (old.sound && sound))
+-- text is added to a page, something is found or not, and the level is found unsolvable or not
+abbrev pub Adds : List ℕ → Bool → Bool → Page → Page → Type 0
+Adds more sound is_lost old new = (new.text ≡ old.text ++ more) × (new.sound ≡ (old.sound && sound)) ×
+    (new.lost ≡ cond is_lost (old.lost + 1) old.lost)
 
 -- a level is written about, with its picture if it is drawn
 abbrev pub Tells : Option ℕ → ℕ → Listed → Board → List RowPlace → Remark → Page → Page → Type 0
 Tells wanted n listed board places remark old new =
     (picture : List ℕ) × (is_drawn remark wanted ≡ true → IsPicture listed.board board.cells picture) ×
-    Adds (level_text wanted n listed board places remark picture) (is_sound remark) old new
+    Adds (level_text wanted n listed board places remark picture) (is_sound remark) (is_unsolvable remark) old new
 
 -- the board of the source, and its rows
 abbrev pub IsSourceOf : BoardSource → Found → Type 0

@@ -27,6 +27,7 @@ fn a_table_has_a_row_for_each_level(rt: HostRuntime) {
         from: 1,
         to: 5,
         table: true,
+        proves: true,
         workers: 1,
         settings,
     };
@@ -110,6 +111,7 @@ fn proves_all<R: Threads + Sync + Abort>(
         from: 1,
         to: 5,
         table,
+        proves: true,
         workers: 1,
         settings,
     };

@@ -53,6 +53,7 @@ fn levels_of_a_collection_have_the_fewest_moves_if_they_are_wanted(rt: HostRunti
         from: 1,
         to: 1,
         table: false,
+        proves: true,
         workers: 1,
         settings: settings(1_000, true),
     };

@@ -4,5 +4,5 @@ use Rattle.shortest.proofs.near.list_layers.Given as goal
 abbrev pub invariant-loop-pushes : goal.invariant-loop-pushes
 invariant-loop-pushes l = record {
   ready : IsMemoryFor l.bounds.board l.memory;
-  list : IsListFor l.bounds.board l.listed;
+  list : IsListFor l.bounds.board l.kept;
 }

@@ -8,7 +8,7 @@ use Rattle.sokopar.proofs.explain.explain_in.Goals as goal
 pub boards-init : goal.boards-init
 boards-init c =
     explained-none c.args.bytes.now c.args.wanted c.in-Ok.collection _ _ c.in-Ok.ensures.begins c.in-Ok.ensures.bound c.in-Ok.ensures.at_line (record {
-      text = subst (λ (t : List ℕ). Explains c.args.bytes.now c.args.wanted [] t true) (sym c.new-text.ensures) none;
+      text = subst (λ (t : List ℕ). Explains c.args.bytes.now c.args.wanted [] t true 0) (sym c.new-text.ensures) none;
       broken = c.broken_of-broken.ensures;
     })
 
@@ -38,6 +38,7 @@ returns c =
     let all = subst (λ n. GivesSource c.args.bytes.now founds c.next_source.new.self n) c.in_default-2.is
     (c.in_ok-source.ensures.next c.args.bytes.now founds so_far.checked.so_far.read so_far.at_line) in
     let page = c.in_ok-put_gap.ensures c.args.bytes.now c.args.wanted so_far.checked.listing so_far.page in
-    explained-report c.report_of.result c.args.bytes.now c.args.wanted so_far.checked.listing c.put_gap.new.page
-    (explained-all c.next_source.new.self so_far all) page.text
+    let lists = explained-all c.next_source.new.self so_far all in
+    explained-report c.report_of.result c.args.bytes.now c.args.wanted so_far.checked.listing c.put_strange.new.page lists
+    (c.in_ok-put_strange.ensures c.args.wanted so_far.checked.listing so_far.checked.count lists page.text)
     (c.report_of.ensures so_far.checked.listing so_far.checked.count so_far.checked.lawful)

@@ -13,15 +13,15 @@ pub returns-then-is_drawn : goal.returns-then-is_drawn
 returns-then-is_drawn c = λ n listed is same.
     let old = c.args.page.now in
     tells-drawn c.args.wanted n listed (board_in c.args.rows.now) c.args.rows.now.places.items c.args.remark.now old
-    (record { text = c.put_drawn.new.text; sound = old.sound && c.is_sound.result }) c.put.new.self c.put_remark.new.text
+    (record { text = c.put_drawn.new.text; sound = old.sound && c.is_sound.result; lost = c.in_ok-lost.lost }) c.put.new.self c.put_remark.new.text
     (sym c.is_quiet.ensures ∙ c.if-is_quiet.false) (c.in_ok-put.ensures.ok ∙ ap (λ h. old.text ++ h) (c.as_slice.ensures ∙ is))
-    c.in_ok-put_remark.ensures (ap (λ (b : Bool). old.sound && b) c.is_sound.ensures) c.put_drawn.result c.args.board.now
+    c.in_ok-put_remark.ensures (ap (λ (b : Bool). old.sound && b) c.is_sound.ensures) c.in_ok-lost.ensures c.put_drawn.result c.args.board.now
     (sym c.is_drawn.ensures ∙ c.if-is_drawn.true) same c.put_drawn.ensures
 
 pub returns : goal.returns
 returns c = λ n listed is same.
     let old = c.args.page.now in
     tells-plain c.args.wanted n listed (board_in c.args.rows.now) c.args.rows.now.places.items c.args.remark.now old
-    (record { text = c.put_remark.new.text; sound = old.sound && c.is_sound.result }) c.put.new.self c.put_remark.new.text
+    (record { text = c.put_remark.new.text; sound = old.sound && c.is_sound.result; lost = c.in_ok-lost.lost }) c.put.new.self c.put_remark.new.text
     (sym c.is_quiet.ensures ∙ c.if-is_quiet.false) (c.in_ok-put.ensures.ok ∙ ap (λ h. old.text ++ h) (c.as_slice.ensures ∙ is))
-    c.in_ok-put_remark.ensures (ap (λ (b : Bool). old.sound && b) c.is_sound.ensures) (sym c.is_drawn.ensures ∙ c.if-is_drawn.false) refl
+    c.in_ok-put_remark.ensures (ap (λ (b : Bool). old.sound && b) c.is_sound.ensures) c.in_ok-lost.ensures (sym c.is_drawn.ensures ∙ c.if-is_drawn.false) refl

@@ -1,5 +1,5 @@
 -- The line of the next broken row is added, or it is passed over.
-use Rattle.std.proofs.Common.{refl}
+use Rattle.std.proofs.Common.{false, refl}
 use Rattle.sokopar.proofs.Explanations.{page-broken, page-passed}
 use Rattle.sokopar.proofs.explain.put_gap.Goals as goal
 
@@ -9,7 +9,7 @@ rows-preserved-then-shown c = λ bytes wanted listing before.
     page-broken _ _ c.in-Some.row is c.in-Some.is (record {
       rest = c.next_row-broken.ensures.on bytes is.broken.rest;
       first = c.next_row-broken.ensures.row bytes is.broken.rest;
-    }) c.in_ok-put_broken.ensures refl
+    }) (λ i. record { text = c.in_ok-put_broken.ensures i; sound = false; lost = c.rows.page.lost })
 
 pub rows-preserved : goal.rows-preserved
 rows-preserved c = λ bytes wanted listing before.

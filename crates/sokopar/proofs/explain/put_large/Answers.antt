@@ -10,4 +10,5 @@ returns c = λ n listed is.
     let head : c.put.new.self ≡ old ++ check_line n listed = c.in_ok-put.ensures.ok ∙ ap (λ h. old ++ h) (c.as_slice.ensures ∙ is) in (
       c.in_ok-put_excess.ensures ∙ ap (λ t. t ++ excess_words c.args.excess) head,
       refl,
+      refl,
     )

@@ -11,8 +11,8 @@ pub remark_of_fault-requires-clause-fault : goal.remark_of_fault-requires-clause
 remark_of_fault-requires-clause-fault c =
     subst (λ (b : Result Board LevelFault). IsJudged (board_in c.args.rows.now) b) c.in-Err.is c.requires.judged
 
-pub returns-in_ok-boxes-in-Ok : goal.returns-in_ok-boxes-in-Ok
-returns-in_ok-boxes-in-Ok c =
+pub returns-in_ok-goals-in-Ok : goal.returns-in_ok-goals-in-Ok
+returns-in_ok-goals-in-Ok c =
     let board = board_in c.args.rows.now in
     let judged = subst (λ (b : Result Board LevelFault). IsJudged board b) c.in-Ok.is c.requires.judged in
     let remark = subst (λ (b : Board). IfOk c.remark_of_level.result (IsRemarkOnLevel b)) judged.0 c.remark_of_level.ensures in

@@ -1,7 +1,7 @@
 -- The verdict is that of the letters; where it is that they solve the level, they write a solution.
 use Rattle.shortest.proofs.lemmas.Fewest.{some_has}
 use Rattle.sokopar.proofs.Judging.{few_pushes}
-use Rattle.sokopar.proofs.given.judge_moves.Goals as goal
+use Rattle.sokopar.proofs.given.prove_moves.Goals as goal
 
 pub compare-judgement-requires-clause-some : goal.compare-judgement-requires-clause-some
 compare-judgement-requires-clause-some g c κs within =
