@@ -9,6 +9,7 @@ use crate::table::{ENDLESS, RegionTable, byte_at, waste_at};
 use grid::{Dir, Level, Position, Square};
 use std::alloc::{AllocError, Global};
 use std::marker::Model;
+use std::sync::Arc;
 
 /// Regions that were chosen for a level, each with the job to make its table, and a toll for each goal.
 #[derive(Drop)]
@@ -21,17 +22,18 @@ pub struct Plan {
     pub(crate) price: u64,
 }
 
-/// A region of a level: its squares, and the waste that it counts of each push, four for each square in the order of
+/// A region of a level that the jobs of a plan share: its squares, and the waste that it counts of each push, four for each square in the order of
 /// directions. The table, once it is made, has passed the check. Contracts see the level, the waste and the table.
 #[derive(Drop)]
 pub struct Job {
-    pub(crate) level: Level,
+    pub(crate) level: Arc<Level>,
     pub(crate) squares: Vec<Square>,
     pub(crate) wastes: Vec<u8>,
     pub(crate) table: Option<RegionTable>,
 }
 
 impl Model for Job {
+    ghost use Rattle.std.specs.Arc.{arc_value};
     ghost use Rattle.std.specs.Prelude.{◌≡◌};
     ghost use Rattle.regions.specs.Regions.{IsRegion};
     ghost use Rattle.regions.specs.inside.Tables.{said, waste_in};
@@ -39,9 +41,9 @@ impl Model for Job {
 
     ghost Value = { JobView };
 
-    ghost view = { λ a. record { board = a.level; wastes = a.wastes.items; table = a.table } };
+    ghost view = { λ a. record { board = arc_value a.level; wastes = a.wastes.items; table = a.table } };
 
-    ghost invariant = { λ a. IsRegion a.level (waste_in a.wastes.items) (said a.table) };
+    ghost invariant = { λ a. IsRegion (arc_value a.level) (waste_in a.wastes.items) (said a.table) };
 }
 
 impl Plan {
@@ -76,7 +78,7 @@ impl Job {
     pub(crate) fn is_of(&self, level: &Level) -> bool
         ensures { IsTrue result → self.now.board ≡ level.now }
     {
-        self.level == *level
+        *self.level == *level
     }
 
     /// What the region says of a position; 0 without a table.
@@ -130,13 +132,14 @@ pub(crate) fn plan_of(
         mut regions,
     } = choice;
     let mut jobs = Vec::new(alloc);
+    let shared = Arc::new(alloc, level.copy()?)?;
     for _ in 0..regions.len() {
         let Some(squares) = regions.pop() else {
             break;
         };
         let counted = wastes_of(alloc, wastes.as_slice(), owners.as_slice(), regions.len())?;
         jobs.push(Job {
-            level: level.copy()?,
+            level: Arc::try_clone(&shared)?,
             squares,
             wastes: counted,
             table: None,
