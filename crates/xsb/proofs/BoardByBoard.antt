@@ -57,12 +57,12 @@ apart-some rest [] parts text whole boards part next e =
     absurd (no-board part.board (part.gap ++ flat_map (λ p. p.board ++ p.gap) next) b.0.some b.0.board
     (subst BeginsGap (whole ∙ ap (flat_map (λ p. p.board ++ p.gap)) e ∙ append_assoc part.board part.gap (flat_map (λ p. p.board ++ p.gap) next)) text))
 
-apart-cons : (part : Part) (parts : List Part) → ((next : Part) (more : List Part) → parts ≡ next ∷ more → 0 < length part.gap) → AreSeparated parts →
+pub apart-cons : (part : Part) (parts : List Part) → ((next : Part) (more : List Part) → parts ≡ next ∷ more → 0 < length part.gap) → AreSeparated parts →
     AreSeparated (part ∷ parts)
 apart-cons part [] some apart = tt
 apart-cons part (next ∷ parts) some apart = (some next parts refl, apart)
 
-all-rows : (lines : List (List ℕ)) (by_line : List (List (List Cell))) → AllZip IsRowLine lines by_line →
+pub all-rows : (lines : List (List ℕ)) (by_line : List (List (List Cell))) → AllZip IsRowLine lines by_line →
     AllByRecursion (λ line. (rows : List (List Cell)) × IsRowLine line rows) lines
 all-rows [] by_line each = tt
 all-rows (line ∷ lines) [] each = absurd each

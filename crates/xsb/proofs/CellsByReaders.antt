@@ -79,7 +79,7 @@ take-before true x [] xs e = refl
 take-before true x (y ∷ ys) xs e = ap (λ l. x ∷ l) e
 take-before false x ys xs e = ap (λ l. x ∷ l) e
 
-take-cut_end : {A : Type 0} (test : A → Bool) (xs : List A) → take (length (cut_end test xs)) xs ≡ cut_end test xs
+pub take-cut_end : {A : Type 0} (test : A → Bool) (xs : List A) → take (length (cut_end test xs)) xs ≡ cut_end test xs
 take-cut_end test [] = refl
 take-cut_end test (x ∷ xs) = take-before (test x) x (cut_end test xs) xs (take-cut_end test xs)
 

@@ -13,7 +13,7 @@ or-assoc : {A : Type 0} (o p q : Option A) → option_or (option_or o p) q ≡ o
 or-assoc None p q = refl
 or-assoc (Some x) p q = refl
 
-last_some-last : {A B : Type 0} (f : A → Option B) (xs : List A) (x : A) → last_some f (xs ++ x ∷ []) ≡ option_or (f x) (last_some f xs)
+pub last_some-last : {A B : Type 0} (f : A → Option B) (xs : List A) (x : A) → last_some f (xs ++ x ∷ []) ≡ option_or (f x) (last_some f xs)
 last_some-last f [] x = sym (or-none (f x))
 last_some-last f (y ∷ xs) x = ap (λ o. option_or o (f y)) (last_some-last f xs x) ∙ or-assoc (f x) (last_some f xs) (f y)
 

@@ -2,7 +2,6 @@
 use Rattle.std.proofs.Common.{◌≡◌, ℕ, ◌-◌, ◌*◌, ◌/◌, ◌%◌, ◌<◌, ◌≤◌, Bool, true, false, cond, nat_lt, List, [], ◌∷◌, length, replicate, flat_map, Some}
 use Rattle.std.proofs.Common.{sym, ap, ◌∙◌, arith, length-append, subst, inl, ⊎_elim, ◌≢◌, MatchBool}
 use Rattle.std.proofs.lemmas.Bool.{false≢true}
-use Rattle.std.specs.List.{AllZip}
 use Rattle.std.proofs.Math.Nat.{mul-div_cancel, mul-mod_left}
 use Rattle.std.proofs.lemmas.List.{length-replicate}
 use Rattle.std.proofs.lemmas.Bool.Decides.{nat_tests}
@@ -17,10 +16,15 @@ use Rattle.grid.specs.Refusals.{IsRefusal}
 use Rattle.grid.specs.inside.Counting.{count_fault}
 use Rattle.xsb.specs.declared.boards.Stretch.{Stretch}
 use Rattle.xsb.specs.Boards.{board_of, cols_of, cut_row, padded}
-use Rattle.xsb.specs.Rows.{IsRowLine}
 use Rattle.xsb.specs.inside.Stretches.{HasRows}
-use Rattle.xsb.proofs.RowLines.{cols_of-append}
-use Rattle.xsb.proofs.Walls.{cols_of-line}
+use Rattle.xsb.proofs.Walls.{cols_of-wall, wall-lines}
+
+-- a padded row is as long as the board has columns
+pub length-padded : (cols : ℕ) (row : List Cell) → length (cut_row row) ≤ cols → length (padded cols row) ≡ cols
+length-padded cols row short =
+    let both = length-append (cut_row row) (replicate (cols - length (cut_row row)) Floor) in
+    let floor = length-replicate (cols - length (cut_row row)) Floor in
+    omega arith
 
 -- all rows of a board are as long as it has columns
 pub length-padded_rows : (cols : ℕ) (rows : List (List Cell)) → cols_of rows ≤ cols → length (flat_map (padded cols) rows) ≡ length rows * cols
@@ -28,8 +32,7 @@ length-padded_rows cols [] wide = omega arith
 length-padded_rows cols (row ∷ rows) wide =
     let rest = length-padded_rows cols rows (omega arith) in
     let both = length-append (padded cols row) (flat_map (padded cols) rows) in
-    let one = length-append (cut_row row) (replicate (cols - length (cut_row row)) Floor) in
-    let floor = length-replicate (cols - length (cut_row row)) Floor in
+    let one = length-padded cols row (omega arith) in
     omega arith
 
 pub row_count-board_of : (rows : List (List Cell)) → 1 ≤ cols_of rows → row_count (board_of rows) ≡ length rows
@@ -37,17 +40,10 @@ unfolding board_of
 row_count-board_of rows some = ap (λ n. n / cols_of rows) (length-padded_rows (cols_of rows) rows (omega arith)) ∙ mul-div_cancel (length rows) (omega arith)
 
 -- the rows of a stretch have a column
-some-cols : (lines : List (List ℕ)) (by_line : List (List (List Cell))) (rows : List (List Cell)) → 0 < length lines → AllZip IsRowLine lines by_line →
-    rows ≡ flat_map (λ r. r) by_line → 1 ≤ cols_of rows
-some-cols [] by_line rows some each all = absurd (omega arith)
-some-cols (line ∷ lines) [] rows some each all = absurd each
-some-cols (line ∷ lines) (first ∷ more) rows some each all =
-    let one = cols_of-line each.0 in let both = cols_of-append first (flat_map (λ r. r) more) in let same = ap cols_of all in omega arith
-
 pub HasRows-cols : {stretch : Stretch} {rows : List (List Cell)} → HasRows stretch rows → 1 ≤ cols_of rows
 HasRows-cols {stretch} {rows} has =
-    let n = has.count in let some = has.some in
-    some-cols has.lines has.rows_are.by_line rows (omega arith) has.rows_are.each has.rows_are.all
+    let n = has.count in let some = has.some in let same = ap cols_of has.rows_are.all in
+    let one = cols_of-wall _ (wall-lines has.lines has.rows_are.by_line (omega arith) has.rows_are.each) in omega arith
 
 -- rows that are too many, or too long
 pub tall-fault : (rows : List (List Cell)) → 1 ≤ cols_of rows → MAX_ROWS < length rows → cell_fault (board_of rows) ≡ Some TooTall

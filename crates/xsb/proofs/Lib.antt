@@ -18,3 +18,5 @@ pub mod RowOrText
 pub mod OneCollection
 pub mod CellsByReaders
 pub mod ReadAgain
+pub mod BoardsAgain
+pub mod AsRead

@@ -29,7 +29,7 @@ lines-other b (c ∷ bs) e =
     ∙ ap (onto_first b) (sym (lines-step (c ∷ bs) (omega arith)))
 
 -- what is not cut off is kept, whatever follows
-without_last-other : (c b : ℕ) (l : List ℕ) → (b == c) ≡ false → without_last c (b ∷ l) ≡ b ∷ without_last c l
+pub without_last-other : (c b : ℕ) (l : List ℕ) → (b == c) ≡ false → without_last c (b ∷ l) ≡ b ∷ without_last c l
 without_last-other c b [] e = ap (λ t. cond t [] (b ∷ [])) e
 without_last-other c b (d ∷ l) e = refl
 
@@ -50,16 +50,18 @@ split-cons true b all part parts e = ([], all, refl)
 split-cons false b all part parts e = (b ∷ part, parts, ap (onto_first b) e)
 
 -- what `slice_split` gives is not empty
-split-some : (c : ℕ) (bs : List ℕ) → (part : List ℕ) × (parts : List (List ℕ)) × (slice_split (λ b. b == c) bs ≡ part ∷ parts)
+pub split-some : (c : ℕ) (bs : List ℕ) → (part : List ℕ) × (parts : List (List ℕ)) × (slice_split (λ b. b == c) bs ≡ part ∷ parts)
 split-some c [] = ([], [], refl)
 split-some c (b ∷ bs) = let s = split-some c bs in split-cons (b == c) b (slice_split (λ b. b == c) bs) s.0 s.1 s.2
 
 without_last-one : (b : ℕ) → (b == line_feed) ≡ true → without_last line_feed (b ∷ []) ≡ []
 without_last-one b e = ap (λ t. cond t [] (b ∷ [])) e
 
-without_last_empty-cons : (parts : List (List ℕ)) → 0 < length parts → without_last_empty ([] ∷ parts) ≡ [] ∷ without_last_empty parts
-without_last_empty-cons [] some = absurd (omega arith)
-without_last_empty-cons (part ∷ parts) some = refl
+pub without_last_empty-cons : (part : List ℕ) (parts : List (List ℕ)) → 0 < length parts
+    → without_last_empty (part ∷ parts) ≡ part ∷ without_last_empty parts
+without_last_empty-cons part [] some = absurd (omega arith)
+without_last_empty-cons [] (next ∷ parts) some = refl
+without_last_empty-cons (b ∷ part) (next ∷ parts) some = refl
 
 lines-split_step : (b : ℕ) (bs : List ℕ) (t : Bool) → (b == line_feed) ≡ t →
     map (without_last line_feed) (lines_of bs) ≡ without_last_empty (slice_split (λ b. b == line_feed) bs) →
@@ -69,7 +71,7 @@ lines-split_step b bs true e rest =
     let s = split-some line_feed bs in
     let some : 0 < length (slice_split (λ b. b == line_feed) bs) = let l = ap length s.2 in omega arith in
     ap (map (without_last line_feed)) (lines-feed b bs e) ∙ ap (λ l. l ∷ map (without_last line_feed) (lines_of bs)) (without_last-one b e)
-    ∙ ap (λ ls. [] ∷ ls) rest ∙ sym (without_last_empty-cons (slice_split (λ b. b == line_feed) bs) some)
+    ∙ ap (λ ls. [] ∷ ls) rest ∙ sym (without_last_empty-cons [] (slice_split (λ b. b == line_feed) bs) some)
 lines-split_step b bs false e rest =
     let s = split-some line_feed bs in
     ap (map (without_last line_feed)) (lines-other b bs e) ∙ without_last-onto line_feed b (lines_of bs) e ∙ ap (onto_first b) rest

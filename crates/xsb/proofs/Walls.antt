@@ -1,5 +1,5 @@
 -- A row line has a wall, so its rows have a column.
-use Rattle.std.proofs.Common.{◌≡◌, ℕ, zero, suc, ◌<◌, ◌≤◌, Bool, true, false, cond, ◌==◌, List, [], ◌∷◌, ◌++◌, length, get_or, replicate, Contains, Some, refl}
+use Rattle.std.proofs.Common.{◌≡◌, ℕ, zero, suc, ◌<◌, ◌≤◌, Bool, true, false, cond, ◌==◌, List, [], ◌∷◌, ◌++◌, length, get_or, replicate, flat_map, Contains, Some, refl}
 use Rattle.std.proofs.Common.{sym, ap, ◌∙◌, arith, subst, ◌⊎◌, inl, inr, ⊎_elim}
 use Rattle.std.specs.List.{AllZip, slice_split, onto_first}
 use Rattle.std.specs.Char.{is_ascii_digit}
@@ -32,11 +32,11 @@ has-append : {A : Type 0} (w : A) (xs ys : List A) → Has w (xs ++ ys) → Has 
 has-append w [] ys h = inr h
 has-append w (x ∷ xs) ys h = ⊎_elim (λ e. inl (inl e)) (λ l. ⊎_elim (λ a. inl (inr a)) (λ b. inr b) (has-append w xs ys l)) h
 
-has-left : {A : Type 0} (w : A) (xs ys : List A) → Has w xs → Has w (xs ++ ys)
+pub has-left : {A : Type 0} (w : A) (xs ys : List A) → Has w xs → Has w (xs ++ ys)
 has-left w [] ys h = absurd h
 has-left w (x ∷ xs) ys h = ⊎_elim (λ e. inl e) (λ l. inr (has-left w xs ys l)) h
 
-has-right : {A : Type 0} (w : A) (xs ys : List A) → Has w ys → Has w (xs ++ ys)
+pub has-right : {A : Type 0} (w : A) (xs ys : List A) → Has w ys → Has w (xs ++ ys)
 has-right w [] ys h = h
 has-right w (x ∷ xs) ys h = inr (has-right w xs ys h)
 
@@ -112,15 +112,33 @@ cut-wall (c ∷ row) h = ⊎_elim
     let l = ap length (ap (λ t. before_rest t c (cut_row row)) other) in omega arith)
     (λ l. let some = cut-wall row l in let b = before-wall (is_floor c) c (cut_row row) (omega arith) in omega arith) h
 
-rows-wall : (pieces : List (List ℕ)) (rows : List (List Cell)) → AllZip IsRow pieces rows → SomeHas wall_byte pieces → 1 ≤ cols_of rows
+rows-wall : (pieces : List (List ℕ)) (rows : List (List Cell)) → AllZip IsRow pieces rows → SomeHas wall_byte pieces
+    → SomeHas Wall rows
 rows-wall [] rows zip h = absurd h
 rows-wall (p ∷ pieces) [] zip h = absurd zip
-rows-wall (p ∷ pieces) (row ∷ rows) zip h = ⊎_elim
-    (λ l. let w = cut-wall row (row-wall zip.0 l) in omega arith)
-    (λ r. let w = rows-wall pieces rows zip.1 r in omega arith) h
+rows-wall (p ∷ pieces) (row ∷ rows) zip h =
+    ⊎_elim (λ l. inl (row-wall zip.0 l)) (λ r. inr (rows-wall pieces rows zip.1 r)) h
 
--- the rows of a row line have a column
-pub cols_of-line : {line : List ℕ} {rows : List (List Cell)} → IsRowLine line rows → 1 ≤ cols_of rows
-cols_of-line {line} {rows} is =
+-- one of the rows of a row line has a wall
+line-wall : {line : List ℕ} {rows : List (List Cell)} → IsRowLine line rows → SomeHas Wall rows
+line-wall {line} {rows} is =
     rows-wall (some_of (slice_split (λ b. b == bar) line)) rows is.pieces
     (some-has (slice_split (λ b. b == bar) line) (split-has line (has-contains wall_byte line is.wall)))
+
+some-left : {A : Type 0} (w : A) (xs ys : List (List A)) → SomeHas w xs → SomeHas w (xs ++ ys)
+some-left w [] ys h = absurd h
+some-left w (x ∷ xs) ys h = ⊎_elim (λ l. inl l) (λ r. inr (some-left w xs ys r)) h
+
+-- one of the rows of row lines has a wall
+pub wall-lines : (lines : List (List ℕ)) (rows : List (List (List Cell))) → 0 < length lines → AllZip IsRowLine lines rows
+    → SomeHas Wall (flat_map (λ r. r) rows)
+wall-lines [] rows some each = absurd (omega arith)
+wall-lines (line ∷ lines) [] some each = absurd each
+wall-lines (line ∷ lines) (r ∷ rows) some each = some-left Wall r (flat_map (λ r. r) rows) (line-wall each.0)
+
+-- rows with a wall have a column
+pub cols_of-wall : (rows : List (List Cell)) → SomeHas Wall rows → 1 ≤ cols_of rows
+cols_of-wall [] h = absurd h
+cols_of-wall (row ∷ rows) h = ⊎_elim
+    (λ l. let w = cut-wall row l in omega arith)
+    (λ r. let w = cols_of-wall rows r in omega arith) h

@@ -1,2 +1,3 @@
 -- The lemmas that the proofs of upper crates cite.
 pub mod Cutting
+pub mod LevelsAgain
