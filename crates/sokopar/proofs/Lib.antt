@@ -15,6 +15,7 @@ mod Remarks
 mod Reporting
 mod Sentencing
 mod Shown
+mod ShownAgain
 mod Solutions
 mod Walks
 mod Writing

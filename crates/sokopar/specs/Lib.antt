@@ -13,4 +13,5 @@ pub mod OneAtMost
 pub mod Retelling
 pub mod Explaining
 pub mod Showing
+pub mod Rereading
 pub mod inside

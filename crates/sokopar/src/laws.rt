@@ -10,8 +10,10 @@ ghost use Rattle.solo.specs.Answers.{IsAnswer};
 ghost use Rattle.sokopar.specs.DeadMap.{IsDeadReport};
 ghost use Rattle.sokopar.specs.OneAtMost.{IsOneAtMost};
 ghost use Rattle.sokopar.specs.Report.{Report, IsCheckReport, IsShowReport, IsReplayReport};
-ghost use Rattle.sokopar.specs.Solving.{IsSolveReport};
+ghost use Rattle.sokopar.specs.Rereading.{ReadsAsShown};
 ghost use Rattle.sokopar.specs.Retelling.{ReplaysAsTold};
+ghost use Rattle.sokopar.specs.Showing.{IsRangeReport};
+ghost use Rattle.sokopar.specs.Solving.{IsSolveReport};
 
 use lurd::Verdict;
 use lurd::laws::{one_reading, one_verdict, written_text};
@@ -37,6 +39,16 @@ pub fn printed_solution_replays()
     written_text();
     one_reading();
     one_verdict();
+    one_collection();
+}
+
+/// The text that [`run_show_range`](crate::run_show_range) writes is a collection of exactly the lawful levels of the
+/// range, in order, with the same names and boards. A text with more than [`MAX_FILE`](xsb::MAX_FILE) bytes is one too,
+/// but no engine reads so long a file.
+pub fn shown_levels_read_back()
+    ensures { (from to : ℕ) (bytes : List ℕ) (report : Report) →
+        IsRangeReport from to bytes report → ReadsAsShown from to bytes report }
+{
     one_collection();
 }
 

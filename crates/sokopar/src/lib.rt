@@ -63,7 +63,7 @@ pub use explaining::run_explain;
 pub use fault::RunFault;
 pub use folder::Folder;
 pub use judging::Settings;
-pub use laws::{one_report, printed_solution_replays, solution_replays};
+pub use laws::{one_report, printed_solution_replays, shown_levels_read_back, solution_replays};
 pub use prover::Progress;
 pub use proving::{
     LevelRequest, LevelsRequest, run_best, run_best_collection, run_prove, run_prove_collection,
