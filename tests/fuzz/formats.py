@@ -4,6 +4,7 @@ writes, and its status.
 It shares nothing with the program. It is slow and plain, and made for small inputs."""
 import contextlib
 import functools
+import itertools
 import re
 
 MOST_ROWS = MOST_COLUMNS = 255
@@ -71,7 +72,8 @@ class Board:
         self.first, self.name = first, name
         self.height, self.width = len(rows), max(map(len, rows))
         self.rows = [row.ljust(self.width) for row in rows]
-        self.fault = self.judged()
+        self.faults = self.judged()
+        self.fault = self.faults[0] if self.faults else None
 
     @functools.cached_property
     def places(self):
@@ -86,34 +88,34 @@ class Board:
         return set().union(*(self.places[cell] for cell in cells))
 
     def judged(self):
-        """The number and the words of the first fault; None where the board is a lawful level."""
+        """The numbers and the words of all faults; of a board that is too large the first one."""
         if self.height > MOST_ROWS:
-            return "1 TooTall"
+            return ["1 TooTall"]
         if self.width > MOST_COLUMNS:
-            return "2 TooWide"
+            return ["2 TooWide"]
         self.walls, self.goals = self.squares(b"#"), self.squares(b".*+")
         self.boxes, players = self.squares(b"$*"), self.squares(b"@+")
         self.open = self.squares(b"@+$*. ")
-        if not players:
-            return "3 NoPlayer"
-        if len(players) > 1:
-            return "4 TwoPlayers"
+        faults = [] if len(players) == 1 else ["4 TwoPlayers" if players else "3 NoPlayer"]
         if not self.boxes:
-            return "5 NoBox"
-        if len(self.boxes) != len(self.goals):
-            return f"6 Counts {len(self.boxes)} {len(self.goals)}"
-        self.player = players.pop()
-        self.room, waiting = {self.player}, [self.player]
+            faults.append("5 NoBox")
+        elif len(self.boxes) != len(self.goals):
+            faults.append(f"6 Counts {len(self.boxes)} {len(self.goals)}")
+        return faults + (["7 Open"] if players and self.gets_out(min(players)) else [])
+
+    def gets_out(self, player):
+        """Whether the player gets out; else `room` is where it gets."""
+        self.player, self.room, waiting = player, {player}, [player]
         while waiting:
             square = waiting.pop()
             for step in DIRS.values():
                 beside = moved(square, step)
                 if not self.has(beside):
-                    return "7 Open"
+                    return True
                 if beside not in self.walls and beside not in self.room:
                     self.room.add(beside)
                     waiting.append(beside)
-        return None
+        return False
 
     def has(self, square):
         return 0 <= square[0] < self.height and 0 <= square[1] < self.width
@@ -436,7 +438,7 @@ def excess(board, places):
 
 
 def explained(board, places, is_wanted):
-    """What is written below the line of a level; where the player gets out, a list of what may be."""
+    """What may be written below the line of a level: lists of sentences, of which the program chooses one."""
 
     def at(square):
         line, is_plain = places[square[0]]
@@ -444,30 +446,35 @@ def explained(board, places, is_wanted):
 
     def sentences(words, squares):
         squares = sorted(squares)
-        more = [f"and {len(squares) - MOST_PLACES} more"] if len(squares) > MOST_PLACES else []
-        return [f"{words} at {at(square)}" for square in squares[:MOST_PLACES]] + more
+        more = [f"  and {len(squares) - MOST_PLACES} more"] if len(squares) > MOST_PLACES else []
+        return [f"  {words} at {at(square)}" for square in squares[:MOST_PLACES]] + more
 
-    said, shown = [], is_wanted
-    if board.fault is None:
-        words, squares = remark(board) or ("", None)
-        if not words:
-            said = ["nothing found; sokopar best FILE N decides whether it can be solved"] if is_wanted else []
-        elif words == "frozen":
-            said = ["unsolvable: some of these boxes are frozen, not all of them on goals",
-                    *sentences("a box is", squares)]
-        else:
-            said = sentences(words, squares) if squares else [words]
-    elif board.fault[0] in "12":
-        said, shown = [excess(board, places)], False
-    elif board.fault[0] in "56":
-        said = sentences("a box is", board.boxes) + sentences("a goal is", board.goals)
-    elif board.fault[0] == "7":
-        said, shown = [[f"the player gets out at {at(square)}" for square in nearest_exit(board)]], True
-    else:
+    def told(fault):
+        if fault[0] in "12":
+            return [[f"  {excess(board, places)}"]]
+        if fault[0] in "56":
+            return [sentences("a box is", board.boxes) + sentences("a goal is", board.goals)]
+        if fault[0] == "7":
+            return [sentences("the player gets out", [square]) for square in nearest_exit(board)]
         players = board.squares(b"@+")
-        said = sentences("a player is", players)
-        said += ["if these are two levels, put an empty line between them"] if len(players) > 1 else []
-    return said, picture(board) if shown else b""
+        parted = ["  if these are two levels, put an empty line between them"] if len(players) > 1 else []
+        return [sentences("a player is", players) + parted]
+
+    if board.fault:
+        also = [[[f"also fault {fault}", *way] for way in told(fault)] for fault in board.faults[1:]]
+        return [sum(parts, []) for parts in itertools.product(told(board.fault), *also)]
+    words, squares = remark(board) or ("", None)
+    if not words:
+        return [["  nothing found; sokopar best FILE N decides whether it can be solved"] if is_wanted else []]
+    if words == "frozen":
+        words = "  unsolvable: some of these boxes are frozen, not all of them on goals"
+        return [[words, *sentences("a box is", squares)]]
+    return [sentences(words, squares) if squares else [f"  {words}"]]
+
+
+def is_shown(board, wanted):
+    """Whether a board is shown: the player gets out, or it is wanted by its number, unless it is too large."""
+    return "7 Open" in board.faults or wanted is not None and (board.fault or "7")[0] not in "12"
 
 
 def explain(data, wanted):
@@ -487,17 +494,15 @@ def explain(data, wanted):
         if number > len(boards) or wanted not in (None, number):
             continue
         board = boards[number - 1]
-        said, rows = explained(board, parts[number - 1][3], wanted is not None)
-        if board.fault is None and not said:
+        ways = explained(board, parts[number - 1][3], wanted is not None)
+        if board.fault is None and ways == [[]]:
             continue
+        rows = picture(board) if is_shown(board, wanted) else b""
         judged = f"fault {board.fault}" if board.fault else f"ok {board.height}x{board.width} {len(board.boxes)} boxes"
         head = line(f"{number} line {board.first} {judged}", board.name)
-        is_sound = board.fault is None and said[0].startswith("nothing")
-        sound, lost = sound and is_sound, lost + (board.fault is None and said[0].startswith("unsolvable"))
-        ways = said[0] if said and isinstance(said[0], list) else None
-        bodies = [[way] for way in ways] if ways else [said]
-        texts = [old + head + b"".join(line(f"  {one}") for one in body) + rows
-                 for old in texts for body in bodies]
+        is_sound = board.fault is None and ways[0][0].startswith("  nothing")
+        sound, lost = sound and is_sound, lost + (board.fault is None and ways[0][0].startswith("  unsolvable"))
+        texts = [old + head + b"".join(map(line, way)) + rows for old in texts for way in ways]
     if not boards and foreign_row(data):
         texts, sound = [old + foreign_row(data) for old in texts], False
     good = sum(board.fault is None for board in boards)

@@ -187,7 +187,8 @@ def longest(bench):
     checked = (1, b"1 line 1 fault 1 TooTall\n1 levels, 0 good\n", b"")
     none = (1, b"no level 1\n", b"")
     tried = (1, b"1 fault 1 TooTall\n1 levels, 0 optimal, 0 unsolvable, 0 open, 1 not judged\n", b"")
-    cases = ((tall, fault, {"check": checked, "explain": told, "each": tried}),
+    shown = (1, b"; 1 line 1 fault 1 TooTall\n", b"")
+    cases = ((tall, fault, {"check": checked, "explain": told, "range": shown, "each": tried}),
              (tall + b"9999", none, {"check": (0, b"0 levels, 0 good\n", b"")}),
              (tall + b"9999#", TOO_LONG, {}))
     for data, said, others in cases:

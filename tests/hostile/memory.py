@@ -124,8 +124,9 @@ def telling(bench):
         yield f"explain of {name}, {len(file)} bytes, within {most} bytes", fault
         is_long = len(report[1]) > worst.TOLD_MORE + worst.TOLD_A_BYTE * len(file)
         yield f"explain of {name}, {len(file)} bytes", f"{len(report[1])} bytes of report" if is_long else None
-    report = bench.run([bench.program, "explain", bench.file(worst.TOLD["boxes in counts"].strip()), "1"])
-    is_long = len(report[1]) > worst.TOLD_MORE + worst.TOLD_A_BYTE * 5
+    board = worst.TOLD["players and boxes in counts"].strip()
+    report = bench.run([bench.program, "explain", bench.file(board), "1"])
+    is_long = len(report[1]) > worst.TOLD_MORE + worst.TOLD_A_BYTE * len(board)
     yield "explain of one board", f"{len(report[1])} bytes of report" if is_long else None
 
 

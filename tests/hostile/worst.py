@@ -7,7 +7,7 @@ table)."""
 FIXED = 8 << 20
 A_BYTE = 20
 A_BYTE_TOLD = 2.25
-TOLD_MORE, TOLD_A_BYTE = 2048, 320
+TOLD_MORE, TOLD_A_BYTE = 2048, 400
 
 SIZE = 1 << 20
 MOST = 1 << 24
@@ -35,7 +35,7 @@ PARTS = {
 
 # those of which `explain` says most
 TOLD = {
-    "boxes in counts": b"#+99*\n\n",
+    "players and boxes in counts": b"#99+99*\n\n",
     "open boards of many cells": b"#@$.|" + b"255#|" * 250 + b"\n\n",
     "broken rows between boards": b"#\n#\t\n",
 }

@@ -177,12 +177,12 @@ something. Both name lines that may be meant as rows and are none: they have a
 wall and another character, or cells and no wall. Such a line ends a level.
 Places are lines and columns of FILE, counted from 1.
 
-If a command reports the fault of a level, explain FILE N says where and why.
-For a level that check calls ok it says if the start is solved, and if it is
-unsolvable because boxes or goals are out of the player's reach, boxes are on
-dead squares or frozen, the player cannot move, or some boxes together get to
-fewer goals than they are. If nothing is found, the level may still be
-unsolvable.
+If a command reports the fault of a level, explain FILE N says where and why,
+and names its other faults, each after 'also'. For a level that check calls ok
+it says if the start is solved, and if it is unsolvable because boxes or goals
+are out of the player's reach, boxes are on dead squares or frozen, the player
+cannot move, or some boxes together get to fewer goals than they are. If nothing
+is found, the level may still be unsolvable.
 
 The exit status is 0 if each level is lawful and nothing was found, else 1.";
 

@@ -82,7 +82,7 @@ turned board from square seen marks new pending later turning all = record {
 
 -- ---- from turn to turn
 
-none_past : (pending : Squares) (turn : ℕ) → slice_get pending turn ≡ None → length pending ≤ turn
+pub none_past : (pending : Squares) (turn : ℕ) → slice_get pending turn ≡ None → length pending ≤ turn
 none_past pending turn none = elim ((slice_get_cases pending turn).1) [
   | inl has ↦ absurd (let no : ◌≡◌ {A = Option ℕ} (Some has.0) None = sym has.2 ∙ none in cc)
   | inr past ↦ past.0

@@ -1,11 +1,11 @@
 -- A collection, as its levels are explained one by one.
 use Rattle.std.proofs.Common.{◌≡◌, ℕ, suc, ◌+◌, ◌<◌, ◌≤◌, Bool, true, false, cond, ◌&&◌, List, [], ◌∷◌, ◌++◌, length, Option, Some, None, Result, refl, sym, ap, ◌∙◌, subst}
-use Rattle.std.proofs.Common.{Ok, Err, OnOk, inl, inr, IfOk, IfSome, is_none, append_assoc, append-nil}
+use Rattle.std.proofs.Common.{Ok, Err, OnOk, inl, inr, IfOk, IfSome, drop, is_none, is_some, append_assoc, append-nil}
 use Rattle.std.proofs.Common.{arith}
 use Rattle.std.proofs.lemmas.Bool.{false≢true}
 use Rattle.grid.specs.Board.{Board}
 use Rattle.grid.specs.declared.fault.LevelFault.{LevelFault}
-use Rattle.grid.specs.Lawful.{cell_fault, row_count}
+use Rattle.grid.specs.Lawful.{IsLevel, cell_fault, row_count}
 use Rattle.grid.specs.declared.limits.TheConstants.{MAX_ROWS}
 use Rattle.xsb.specs.Collection.{Found, IsJudged}
 use Rattle.xsb.specs.Entries.{IsBoardEntry}
@@ -24,17 +24,17 @@ use Rattle.xsb.specs.inside.Cursors.{IsAt}
 use Rattle.xsb.specs.inside.Progress.{HasRead, lines_left}
 use Rattle.xsb.specs.inside.Sources.{AreRowsOf, GivesSource, HasRowsFor}
 use Rattle.sokopar.specs.Entries.{listed_of}
-use Rattle.sokopar.specs.Explaining.{Explains, IsExplainReport, explained, IsPicture, IsRemarkOn, broken_line, drawn, is_drawn, is_quiet, is_sound, is_unsolvable, is_wanted}
-use Rattle.sokopar.specs.Explaining.{excess_words, level_text, remark_words, broken, foreign, large, other, told}
+use Rattle.sokopar.specs.Explaining.{AreFaults, Explains, IsExplainReport, explained, IsPicture, IsRemarkOn, broken_line, drawn, is_drawn, is_quiet, is_sound, is_unsolvable, is_wanted}
+use Rattle.sokopar.specs.Explaining.{excess_words, level_text, nothing, remark_words, broken, foreign, large, other, told}
 use Rattle.sokopar.specs.Listing.{Listed, IsLevelListing}
 use Rattle.sokopar.specs.Report.{Report, check_line}
 use Rattle.sokopar.specs.declared.explain.Broken.{Broken}
 use Rattle.sokopar.specs.declared.explain.Page.{Page}
 use Rattle.sokopar.specs.declared.remark.Remark.{Remark}
-use Rattle.sokopar.specs.declared.remark.Remark.TheVariants.{Players, Unequal, Exit, Solved, Lost, Frozen, Stuck, Unmatched, Sound}
-use Rattle.sokopar.specs.inside.Explaining.{AreBounded, HaveBroken, board_in, foreign_line}
-use Rattle.sokopar.specs.inside.Pages.{Adds, IsPage, IsSourceOf, Tells}
+use Rattle.sokopar.specs.inside.Explaining.{AddsFaults, AreBounded, HaveBroken, IsWayOut, board_in, foreign_line}
+use Rattle.sokopar.specs.inside.Pages.{IsPage, IsSourceOf, Tells}
 use Rattle.sokopar.specs.inside.Parts.{is_good}
+use Rattle.sokopar.proofs.Behind.{lawful_faults, quiet_is, quiet_undrawn}
 use Rattle.sokopar.proofs.Listings.{HasChecked, checked-more, checked-none}
 
 -- how far a collection was explained
@@ -100,13 +100,13 @@ pub level-told : (bytes : List ℕ) (wanted : Option ℕ) (number : ℕ) (listin
     Tells wanted number listed board places remark old new →
     Explains bytes wanted listing old.text old.sound old.lost → Explains bytes wanted (listing ++ listed ∷ []) new.text new.sound new.lost
 level-told bytes wanted number listing listed board places remark old new count is at_line judged remark_on tells before =
-    let picture = tells.0 in
-    let adds = tells.2 in
+    let adds = tells.adds in
     subst (λ k. Explains bytes wanted (listing ++ listed ∷ []) new.text new.sound k) (sym adds.2)
     (subst (λ s. Explains bytes wanted (listing ++ listed ∷ []) new.text s (cond (is_unsolvable remark) (old.lost + 1) old.lost)) (sym adds.1)
     (subst (λ t. Explains bytes wanted (listing ++ listed ∷ []) t (old.sound && is_sound remark) (cond (is_unsolvable remark) (old.lost + 1) old.lost))
-    (sym (adds.0 ∙ ap (λ n. old.text ++ level_text wanted n listed board places remark picture) count))
-    (told listed board places remark picture before (ap (is_wanted wanted) (sym count) ∙ is) at_line judged remark_on tells.1)))
+    (sym (adds.0 ∙ ap (λ n. old.text ++ level_text wanted n listed board places remark tells.besides tells.out tells.picture) count))
+    (told listed board places remark tells.out tells.faults tells.besides tells.picture before (ap (is_wanted wanted) (sym count) ∙ is)
+    at_line judged remark_on tells.are tells.told tells.shown)))
 
 -- or it is another one
 pub level-other : (bytes : List ℕ) (wanted : Option ℕ) (number : ℕ) (listing : List Listed) (listed : Listed) (page : Page) →
@@ -115,11 +115,12 @@ pub level-other : (bytes : List ℕ) (wanted : Option ℕ) (number : ℕ) (listi
 level-other bytes wanted number listing listed page count is before = other listed before (ap (is_wanted wanted) (sym count) ∙ is)
 
 -- texts one after the other
-pub three_said : (old first second third one two new : List ℕ) → one ≡ old ++ first → two ≡ one ++ second → new ≡ two ++ third →
-    new ≡ old ++ ((first ++ second) ++ third)
-three_said old first second third one two new a b c =
-    c ∙ ap (λ t. t ++ third) (b ∙ ap (λ t. t ++ second) a ∙ append_assoc old first second)
-    ∙ append_assoc old (first ++ second) third
+four_said : (old first second third fourth one two three new : List ℕ) → one ≡ old ++ first → two ≡ one ++ second → three ≡ two ++ third →
+    new ≡ three ++ fourth → new ≡ old ++ (((first ++ second) ++ third) ++ fourth)
+four_said old first second third fourth one two three new a b c d =
+    let both : two ≡ old ++ (first ++ second) = b ∙ ap (λ t. t ++ second) a ∙ append_assoc old first second in
+    let all : three ≡ old ++ ((first ++ second) ++ third) = c ∙ ap (λ t. t ++ third) both ∙ append_assoc old (first ++ second) third in
+    d ∙ ap (λ t. t ++ fourth) all ∙ append_assoc old ((first ++ second) ++ third) fourth
 
 quiet-sound : (sound so_far : Bool) (none : Bool) → (sound && none) ≡ true → so_far ≡ (so_far && sound)
 quiet-sound true true none is = refl
@@ -128,77 +129,68 @@ quiet-sound false so_far none is = absurd (false≢true is)
 
 -- a level of which nothing is written is not found unsolvable
 quiet-lost : (remark : Remark) (wanted : Option ℕ) (lost : ℕ) → is_quiet remark wanted ≡ true → lost ≡ cond (is_unsolvable remark) (lost + 1) lost
-quiet-lost (Players squares) wanted lost quiet = refl
-quiet-lost (Unequal boxes goals) wanted lost quiet = refl
-quiet-lost (Exit q) wanted lost quiet = refl
-quiet-lost Solved wanted lost quiet = refl
-quiet-lost (Lost plight squares) wanted lost quiet = absurd (false≢true quiet)
-quiet-lost (Frozen squares) wanted lost quiet = absurd (false≢true quiet)
-quiet-lost Stuck wanted lost quiet = absurd (false≢true quiet)
-quiet-lost Unmatched wanted lost quiet = absurd (false≢true quiet)
-quiet-lost Sound wanted lost quiet = refl
-
--- a level of which nothing is written is not drawn
-quiet-undrawn : (remark : Remark) (wanted : Option ℕ) → is_quiet remark wanted ≡ true → is_drawn remark wanted ≡ true → ⊥
-quiet-undrawn (Players squares) wanted quiet shown = false≢true quiet
-quiet-undrawn (Unequal boxes goals) wanted quiet shown = false≢true quiet
-quiet-undrawn (Exit q) wanted quiet shown = false≢true quiet
-quiet-undrawn Solved wanted quiet shown = false≢true quiet
-quiet-undrawn (Lost plight squares) wanted quiet shown = false≢true quiet
-quiet-undrawn (Frozen squares) wanted quiet shown = false≢true quiet
-quiet-undrawn Stuck wanted quiet shown = false≢true quiet
-quiet-undrawn Unmatched wanted quiet shown = false≢true quiet
-quiet-undrawn Sound None quiet shown = false≢true shown
-quiet-undrawn Sound (Some n) quiet shown = false≢true quiet
+quiet-lost remark wanted lost quiet = rw (quiet_is remark wanted quiet) refl
 
 -- nothing is written of a level
-pub tells-nothing : (wanted : Option ℕ) (n : ℕ) (listed : Listed) (board : Board) (places : List RowPlace) (remark : Remark) (page : Page) →
-    is_quiet remark wanted ≡ true → Tells wanted n listed board places remark page page
-tells-nothing wanted n listed board places remark page is =
-    let more = check_line n listed ++ remark_words board.cols places remark ++ cond (is_drawn remark wanted) (drawn board []) [] in (
-      [],
-      λ shown. absurd (quiet-undrawn remark wanted is shown),
-      (
+pub tells-nothing : (wanted : Option ℕ) (n : ℕ) (listed : Listed) (board : Board) (places : List RowPlace) (remark : Remark) (exit : Option ℕ)
+    (page : Page) → IsLevel board → IsWayOut board exit → is_quiet remark wanted ≡ true → Tells wanted n listed board places remark page page
+tells-nothing wanted n listed board places remark exit page level way is =
+    let more = check_line n listed ++ remark_words board.cols places remark ++ [] ++ cond (is_drawn (is_some exit) wanted) (drawn board []) [] in record {
+      out = is_some exit;
+      faults = [];
+      besides = [];
+      picture = [];
+      are = lawful_faults board exit level way;
+      told = nothing;
+      shown = λ drawn. absurd (quiet_undrawn board exit (is_sound remark) wanted level way is drawn);
+      adds = (
         sym (append-nil page.text) ∙ ap (λ (b : Bool). page.text ++ cond b [] more) (sym is),
         quiet-sound (is_sound remark) page.sound (is_none wanted) is,
         quiet-lost remark wanted page.lost is,
-      ),
-    )
+      );
+    }
 
 -- a level is written about
-module _ (wanted : Option ℕ) (n : ℕ) (listed : Listed) (board : Board) (places : List RowPlace) (remark : Remark) (old new : Page) (one two : List ℕ)
-    (loud : is_quiet remark wanted ≡ false) (head : one ≡ old.text ++ check_line n listed) (said : two ≡ one ++ remark_words board.cols places remark)
+module _ (wanted : Option ℕ) (n : ℕ) (listed : Listed) (board : Board) (places : List RowPlace) (remark : Remark) (out : Bool) (old new : Page)
+    (one two three : List ℕ) (loud : is_quiet remark wanted ≡ false) (head : one ≡ old.text ++ check_line n listed)
+    (said : two ≡ one ++ remark_words board.cols places remark)
+    (more : (faults : List LevelFault) × AreFaults board out faults × AddsFaults board places (drop 1 faults) two three)
     (found : new.sound ≡ (old.sound && is_sound remark)) (number : new.lost ≡ cond (is_unsolvable remark) (old.lost + 1) old.lost) where
   -- with its board or without it
-  adds-text : (picture : List ℕ) → new.text ≡ two ++ cond (is_drawn remark wanted) (drawn board picture) [] →
-      Adds (level_text wanted n listed board places remark picture) (is_sound remark) (is_unsolvable remark) old new
-  adds-text picture text =
-      let rows = cond (is_drawn remark wanted) (drawn board picture) [] in
-      let more = check_line n listed ++ remark_words board.cols places remark ++ rows in (
-        three_said old.text (check_line n listed) (remark_words board.cols places remark) rows one two new.text head said text
-            ∙ ap (λ (b : Bool). old.text ++ cond b [] more) (sym loud),
-        found,
-        number,
-      )
+  tells-text : (picture : List ℕ) → (is_drawn out wanted ≡ true → IsPicture listed.board board.cells picture) →
+      new.text ≡ three ++ cond (is_drawn out wanted) (drawn board picture) [] → Tells wanted n listed board places remark old new
+  tells-text picture is text =
+      let besides = more.2.0 in
+      let rows = cond (is_drawn out wanted) (drawn board picture) [] in
+      let all = check_line n listed ++ remark_words board.cols places remark ++ besides ++ rows in record {
+        out = out;
+        faults = more.0;
+        besides = besides;
+        picture = picture;
+        are = more.1;
+        told = more.2.1;
+        shown = is;
+        adds = (
+          four_said old.text (check_line n listed) (remark_words board.cols places remark) besides rows one two three new.text head said more.2.2 text
+              ∙ ap (λ (b : Bool). old.text ++ cond b [] all) (sym loud),
+          found,
+          number,
+        );
+      }
 
   -- without its board
-  pub tells-plain : is_drawn remark wanted ≡ false → new.text ≡ two → Tells wanted n listed board places remark old new
-  tells-plain hidden text = (
-    [],
-    λ shown. absurd (false≢true (sym hidden ∙ shown)),
-    adds-text [] (text ∙ sym (append-nil two) ∙ ap (λ (b : Bool). two ++ cond b (drawn board []) []) (sym hidden)),
-  )
+  pub tells-plain : is_drawn out wanted ≡ false → new.text ≡ three → Tells wanted n listed board places remark old new
+  tells-plain hidden text = tells-text [] (λ shown. absurd (false≢true (sym hidden ∙ shown)))
+      (text ∙ sym (append-nil three) ∙ ap (λ (b : Bool). three ++ cond b (drawn board []) []) (sym hidden))
 
   -- with its board, if memory lasts
-  pub tells-drawn : {A E : Type 0} (result : Result A E) (judged : Result Board LevelFault) → is_drawn remark wanted ≡ true → judged ≡ listed.board →
-      OnOk result ((picture : List ℕ) × IsPicture judged board.cells picture × (new.text ≡ two ++ drawn board picture)) →
+  pub tells-drawn : {A E : Type 0} (result : Result A E) (judged : Result Board LevelFault) → is_drawn out wanted ≡ true → judged ≡ listed.board →
+      OnOk result ((picture : List ℕ) × IsPicture judged board.cells picture × (new.text ≡ three ++ drawn board picture)) →
       OnOk result (Tells wanted n listed board places remark old new)
   tells-drawn (Err e) judged shown same picture = tt
-  tells-drawn (Ok a) judged shown same picture = (
-    picture.0,
-    λ _. subst (λ (j : Result Board LevelFault). IsPicture j board.cells picture.0) same picture.1,
-    adds-text picture.0 (picture.2 ∙ ap (λ (b : Bool). two ++ cond b (drawn board picture.0) []) (sym shown)),
-  )
+  tells-drawn (Ok a) judged shown same picture = tells-text picture.0
+      (λ _. subst (λ (j : Result Board LevelFault). IsPicture j board.cells picture.0) same picture.1)
+      (picture.2 ∙ ap (λ (b : Bool). three ++ cond b (drawn board picture.0) []) (sym shown))
 
 -- the rows of a source, and how their board is judged
 pub rows-of : (source : BoardSource) (rows : BoardRows) (found : Found) → IsSourceOf source found → source.rows ≡ Ok rows →

@@ -1,4 +1,5 @@
 mod Acts
+mod Behind
 mod ByLine
 mod Exiting
 mod Explanations

@@ -1,8 +1,8 @@
 -- What explaining the levels of a collection writes: where and why each is faulty or cannot be solved.
-use Rattle.std.specs.Prelude.{◌≡◌, ◌≢◌, ℕ, zero, suc, ◌+◌, ◌-◌, ◌/◌, ◌%◌, ◌<◌, Bool, true, false, cond, ◌&&◌, ◌==◌, nat_lt}
+use Rattle.std.specs.Prelude.{◌≡◌, ◌≢◌, ℕ, zero, suc, ◌+◌, ◌-◌, ◌/◌, ◌%◌, ◌<◌, Bool, true, false, cond, ◌&&◌, ◌||◌, ◌==◌, nat_lt}
 use Rattle.std.specs.Prelude.{encode_utf8}
 use Rattle.std.specs.Fmt.{digit_glyph}
-use Rattle.std.specs.Prelude.{List, [], ◌∷◌, ◌++◌, length, take, map, flat_map, get_or, slice_get, slice_index, slice_index_or, codes, decimal}
+use Rattle.std.specs.Prelude.{List, [], ◌∷◌, ◌++◌, length, take, drop, map, flat_map, get_or, slice_get, slice_index, slice_index_or, codes, decimal}
 use Rattle.std.specs.Prelude.{Option, Some, None, is_some, is_none, Result, Ok, Err, IsTrue, ◌↔◌}
 use Rattle.grid.specs.declared.cell.Cell.{Cell}
 use Rattle.grid.specs.declared.cell.Cell.TheVariants.{Wall, Floor, Box}
@@ -11,7 +11,7 @@ use Rattle.grid.specs.declared.fault.LevelFault.{LevelFault}
 use Rattle.grid.specs.declared.fault.LevelFault.TheVariants.{NoPlayer, TwoPlayers, NoBox, Counts, Open}
 use Rattle.grid.specs.declared.limits.TheConstants.{MAX_ROWS, MAX_COLS}
 use Rattle.grid.specs.Board.{Board, IsSolved, Pushes, Scene, Walks, box_cell, goal_cell, is_goal, player_cell, next, start}
-use Rattle.grid.specs.Lawful.{InRoom, row_count}
+use Rattle.grid.specs.Lawful.{InRoom, IsOpen, box_count, goal_count, player_count, row_count}
 use Rattle.grid.specs.Squares.{Squares, contains, places_from}
 use Rattle.doom.specs.Deadlocks.{IsDead, IsFrozen, Undoomed}
 use Rattle.xsb.specs.Breaks.{IsBroken}
@@ -31,7 +31,7 @@ use Rattle.xsb.specs.declared.places.RowPlace.{RowPlace}
 use Rattle.sokopar.specs.Judging.{IsUnsolvable}
 use Rattle.sokopar.specs.DeadMap.{IsMark, marked_row}
 use Rattle.sokopar.specs.Listing.{Listed, IsLevelListing}
-use Rattle.sokopar.specs.Report.{Report, check_line, good_count, line, no_level}
+use Rattle.sokopar.specs.Report.{Report, check_line, fault_words, good_count, line, no_level}
 use Rattle.sokopar.specs.declared.remark.Plight.{Plight}
 use Rattle.sokopar.specs.declared.remark.Plight.TheVariants.{Unreached, Unfilled, OnDead}
 use Rattle.sokopar.specs.declared.remark.Remark.{Remark}
@@ -145,6 +145,22 @@ IsRemarkOnFault (Counts box_number goal_number) board (Unequal boxes goals) =
 IsRemarkOnFault Open board (Exit q) = IsExit board q
 IsRemarkOnFault fault board remark = ⊥
 
+-- the faults of a board that is none too large, in the order of `LevelFault`: of its players, of its boxes and goals, and
+-- that the player, of several the first, gets out
+abbrev pub AreFaults : Board → Bool → List LevelFault → Type 0
+AreFaults board out faults = (IsTrue out ↔ ((player_count board ≢ 0) × IsOpen board)) × (faults ≡
+    cond (player_count board == 0) (NoPlayer ∷ []) (cond (nat_lt 1 (player_count board)) (TwoPlayers ∷ []) []) ++
+    cond (box_count board == 0) (NoBox ∷ [])
+    (cond (box_count board == goal_count board) [] (Counts (box_count board) (goal_count board) ∷ [])) ++
+    cond out (Open ∷ []) [])
+
+-- the text on some faults of a board: a line for each, and the sentences of its remark
+pub data AlsoTold (board : Board) (places : List RowPlace) : List LevelFault → List ℕ → Type 0 where
+  nothing : AlsoTold board places [] []
+  further : {faults : List LevelFault} {text : List ℕ} (fault : LevelFault) (remark : Remark) →
+      IsRemarkOnFault fault board remark → AlsoTold board places faults text → AlsoTold board places (fault ∷ faults)
+      (line (codes "also " ++ fault_words fault) ++ remark_words board.cols places remark ++ text)
+
 -- the remark on a board, as the board is judged
 abbrev pub IsRemarkOn : Result Board LevelFault → Board → Remark → Type 0
 IsRemarkOn (Ok level) board remark = IsRemarkOnLevel board remark
@@ -168,9 +184,8 @@ abbrev pub is_quiet : Remark → Option ℕ → Bool
 is_quiet remark wanted = is_sound remark && is_none wanted
 
 -- the board is shown: the player gets out, or the level is wanted by its number
-abbrev pub is_drawn : Remark → Option ℕ → Bool
-is_drawn (Exit q) wanted = true
-is_drawn remark wanted = is_some wanted
+abbrev pub is_drawn : Bool → Option ℕ → Bool
+is_drawn out wanted = out || is_some wanted
 
 -- the byte that shows a cell of a level: floor has the mark of its square by `dead`, a box on a dead square is `!`, all
 -- others are as they were read
@@ -198,10 +213,11 @@ IsPicture (Err fault) cells bytes = bytes ≡ map cell_byte cells
 abbrev pub drawn : Board → List ℕ → List ℕ
 drawn board bytes = flat_map marked_row (rows_from (row_count board) board.cols bytes)
 
--- what is written of level n: `check`'s line, the remark, and the board, given the bytes of its cells
-abbrev pub level_text : Option ℕ → ℕ → Listed → Board → List RowPlace → Remark → List ℕ → List ℕ
-level_text wanted n listed board places remark picture = cond (is_quiet remark wanted) [] (check_line n listed ++
-    remark_words board.cols places remark ++ cond (is_drawn remark wanted) (drawn board picture) [])
+-- what is written of level n: `check`'s line, the remark, the text on further faults, and the board, given the bytes of
+-- its cells
+abbrev pub level_text : Option ℕ → ℕ → Listed → Board → List RowPlace → Remark → List ℕ → Bool → List ℕ → List ℕ
+level_text wanted n listed board places remark besides out picture = cond (is_quiet remark wanted) [] (check_line n listed ++
+    remark_words board.cols places remark ++ besides ++ cond (is_drawn out wanted) (drawn board picture) [])
 
 -- a byte in words
 abbrev pub byte_words : ℕ → List ℕ
@@ -261,14 +277,14 @@ pub data Explains (bytes : List ℕ) (wanted : Option ℕ) : List Listed → Lis
       Explains bytes wanted (listing ++ listed ∷ [])
       (text ++ check_line (suc (length listing)) listed ++ excess_words excess) false lost
   told : {listing : List Listed} {text : List ℕ} {sound : Bool} {lost : ℕ} (listed : Listed) (board : Board)
-      (places : List RowPlace) (remark : Remark) (picture : List ℕ) →
+      (places : List RowPlace) (remark : Remark) (out : Bool) (faults : List LevelFault) (besides picture : List ℕ) →
       Explains bytes wanted listing text sound lost → is_wanted wanted (suc (length listing)) ≡ true →
       IsBoardAt bytes listed.first_line board places → IsJudged board listed.board →
-      IsRemarkOn listed.board board remark →
-      (is_drawn remark wanted ≡ true → IsPicture listed.board board.cells picture) →
+      IsRemarkOn listed.board board remark → AreFaults board out faults → AlsoTold board places (drop 1 faults) besides →
+      (is_drawn out wanted ≡ true → IsPicture listed.board board.cells picture) →
       Explains bytes wanted (listing ++ listed ∷ [])
-      (text ++ level_text wanted (suc (length listing)) listed board places remark picture) (sound && is_sound remark)
-      (cond (is_unsolvable remark) (lost + 1) lost)
+      (text ++ level_text wanted (suc (length listing)) listed board places remark besides out picture)
+      (sound && is_sound remark) (cond (is_unsolvable remark) (lost + 1) lost)
 
 -- the report: of all levels with `check`'s totals and how many are found unsolvable; or of the wanted one, if there is such
 -- a level; good if nothing was found

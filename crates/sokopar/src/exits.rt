@@ -1,10 +1,9 @@
 //! Where the player gets out of a board.
 ghost use Rattle.std.specs.Prelude.{◌≡◌, ℕ, ◌+◌, ◌≤◌, ◌<◌, ◌∷◌, false, length, drop, slice_get, IfOk, MatchBool, OnOk};
 ghost use Rattle.grid.specs.Board.{is_wall, next, start_player};
-ghost use Rattle.grid.specs.Lawful.{IsOpen};
 ghost use Rattle.grid.specs.inside.Filling.{IsFilling, IsLook, IsMarked};
 ghost use Rattle.sokopar.specs.Explaining.{IsExit};
-ghost use Rattle.sokopar.specs.inside.Explaining.{AreBounded, HasTurned, board_in};
+ghost use Rattle.sokopar.specs.inside.Explaining.{AreBounded, HasTurned, IsExitOrNone, board_in};
 
 use grid::{Dir, Square};
 use std::alloc::{AllocError, Global};
@@ -96,55 +95,56 @@ fn pending_at(pending: &[Square], turn: usize) -> Option<Square>
     pending.get(turn).copied()
 }
 
-/// The first of the pending squares beside which the grid ends; looks at the squares next to each.
+/// The first of the pending squares beside which the grid ends, if any; looks at the squares next to each.
 fn first_exit(
     rows: &BoardRows,
     marks: &mut [bool],
     pending: &mut Vec<Square>,
-) -> Result<Square, AllocError>
+) -> Result<Option<Square>, AllocError>
     requires bounds { AreBounded rows.now }
     requires filling { IsFilling (board_in rows.now) marks.old pending.old.items }
-    requires open { IsOpen (board_in rows.now) }
-    ensures { IfOk result (IsExit (board_in rows.now)) }
+    ensures { IfOk result (IsExitOrNone (board_in rows.now)) }
 {
     let mut turn = 0;
     'turns: while let Some(square) = pending_at(pending.as_slice(), turn) {
         let ends = look_round(rows, marks, pending, turn, square)?;
         if ends {
-            return Ok(square);
+            return Ok(Some(square));
         }
         turn += 1;
     }
-    unreachable!()
+    Ok(None)
 }
 
-/// `exit_of`, given a clear mark for each square.
+/// `exit_from`, given a clear mark for each square.
 fn exit_by(
     alloc: Global,
     rows: &BoardRows,
     marks: &mut [bool],
     player: Square,
-) -> Result<Square, AllocError>
+) -> Result<Option<Square>, AllocError>
     requires bounds { AreBounded rows.now }
     requires start { player ≡ start_player (board_in rows.now) }
     requires floor { is_wall (board_in rows.now) player ≡ false }
-    requires open { IsOpen (board_in rows.now) }
     requires size { length marks.old ≡ length rows.now.cells.items }
     requires clear { (q : ℕ) → ¬ (IsMarked marks.old q) }
-    ensures { IfOk result (IsExit (board_in rows.now)) }
+    ensures { IfOk result (IsExitOrNone (board_in rows.now)) }
 {
     let mut pending = vec![in alloc; player; 1]?;
     marks[player.0 as usize] = true;
     first_exit(rows, marks, &mut pending)
 }
 
-/// A square at the edge of the grid that steps lead to from the player of an open board, boxes ignored: the nearest.
-pub(crate) fn exit_of(alloc: Global, rows: &BoardRows, player: Square) -> Result<Square, AllocError>
+/// A square at the edge of the grid that steps lead to from the player, boxes ignored: the nearest. `None` if none do.
+pub(crate) fn exit_from(
+    alloc: Global,
+    rows: &BoardRows,
+    player: Square,
+) -> Result<Option<Square>, AllocError>
     requires bounds { AreBounded rows.now }
     requires start { player ≡ start_player (board_in rows.now) }
     requires floor { is_wall (board_in rows.now) player ≡ false }
-    requires open { IsOpen (board_in rows.now) }
-    ensures { IfOk result (IsExit (board_in rows.now)) }
+    ensures { IfOk result (IsExitOrNone (board_in rows.now)) }
 {
     let mut marks = vec![in alloc; false; rows.cells.len()]?;
     exit_by(alloc, rows, &mut marks, player)

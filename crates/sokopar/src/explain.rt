@@ -1,13 +1,13 @@
 //! Explaining the levels of a collection: where and why each is faulty or cannot be solved.
 ghost use Rattle.std.specs.Prelude.{◌≡◌, ℕ, suc, ◌+◌, ◌≤◌, ◌++◌, ◌∷◌, [], List, Option, length, IfOk, OnOk, true};
-ghost use Rattle.std.specs.Prelude.{codes, cond, decimal, false};
+ghost use Rattle.std.specs.Prelude.{codes, cond, decimal, false, is_some};
 ghost use Rattle.sokopar.specs.Entries.{listed_of};
 ghost use Rattle.sokopar.specs.Explaining.{Explains, IsExplainReport, IsRemarkOn, excess_words, explained};
 ghost use Rattle.sokopar.specs.Explaining.{is_drawn, is_quiet, is_unsolvable, is_wanted};
 ghost use Rattle.sokopar.specs.Listing.{IsLevelListing, Listed};
 ghost use Rattle.sokopar.specs.Report.{check_line, good_count, line};
 ghost use Rattle.sokopar.specs.declared.remark.Remark.{Remark};
-ghost use Rattle.sokopar.specs.inside.Explaining.{AreBounded, HaveBroken, board_in, unsolvable_words};
+ghost use Rattle.sokopar.specs.inside.Explaining.{AreBounded, HaveBroken, IsWayOut, board_in, unsolvable_words};
 ghost use Rattle.sokopar.specs.inside.Pages.{IsPage, IsSourceOf, Tells};
 ghost use Rattle.xsb.specs.Collection.{Found, IsJudged};
 ghost use Rattle.xsb.specs.Entries.{IsBoardEntry};
@@ -15,13 +15,14 @@ ghost use Rattle.xsb.specs.inside.Sources.{HasSource};
 
 use crate::check::{good_with, put_counts, put_line};
 use crate::doomed::remark_of_level;
-use crate::faulty::{Kind, remark_of_fault, squares_with};
+use crate::faulty::{Kind, exit_of, remark_of_fault, squares_with};
+use crate::further::put_further;
 use crate::picture::put_drawn;
 use crate::remark::Remark;
 use crate::report::Report;
 use crate::sentences::{put_broken, put_excess, put_foreign, put_remark};
 use crate::show::no_level;
-use grid::{Level, LevelFault};
+use grid::{Level, LevelFault, Square};
 use judging::Text;
 use std::alloc::{AllocError, Global};
 use xsb::{
@@ -103,14 +104,32 @@ fn head_of(alloc: Global, number: usize, entry: &BoardEntry) -> Result<Text, All
     Ok(head)
 }
 
-/// The remark on a level.
+/// Where the player gets out of a faulty board; `None` if nowhere, or if the level is lawful.
+fn exit_in(
+    alloc: Global,
+    board: &Result<Level, LevelFault>,
+    rows: &BoardRows,
+) -> Result<Option<Square>, AllocError>
+    requires bounds { AreBounded rows.now }
+    requires judged { IsJudged (board_in rows.now) board.now }
+    ensures { IfOk result (IsWayOut (board_in rows.now)) }
+{
+    match board {
+        Ok(_) => Ok(None),
+        Err(_) => exit_of(alloc, rows),
+    }
+}
+
+/// The remark on a level, given where the player gets out.
 fn remark_of(
     alloc: Global,
     board: &Result<Level, LevelFault>,
     rows: &BoardRows,
+    exit: &Option<Square>,
 ) -> Result<Remark, AllocError>
     requires bounds { AreBounded rows.now }
     requires judged { IsJudged (board_in rows.now) board.now }
+    requires exit { IsWayOut (board_in rows.now) exit.now }
     ensures { IfOk result (IsRemarkOn board.now (board_in rows.now)) }
 {
     match board {
@@ -119,7 +138,7 @@ fn remark_of(
             let goals = squares_with(alloc, Kind::Goal, rows)?;
             remark_of_level(alloc, level, boxes.as_slice(), goals.as_slice())
         }
-        Err(fault) => remark_of_fault(alloc, *fault, rows),
+        Err(fault) => remark_of_fault(alloc, *fault, rows, exit),
     }
 }
 
@@ -131,13 +150,10 @@ fn is_quiet(remark: &Remark, wanted: Option<u32>) -> bool
 }
 
 /// Whether the board is shown.
-fn is_drawn(remark: &Remark, wanted: Option<u32>) -> bool
-    ensures { result ≡ is_drawn remark.now wanted }
+fn is_drawn(exit: &Option<Square>, wanted: Option<u32>) -> bool
+    ensures { result ≡ is_drawn (is_some exit.now) wanted }
 {
-    match remark {
-        Remark::Exit(_) => true,
-        _ => wanted.is_some(),
-    }
+    exit.is_some() || wanted.is_some()
 }
 
 /// The number of levels found unsolvable with one level more.
@@ -158,10 +174,13 @@ fn put_found(
     rows: &BoardRows,
     board: &Result<Level, LevelFault>,
     remark: &Remark,
+    exit: &Option<Square>,
     wanted: Option<u32>,
 ) -> Result<(), AllocError>
     requires bounds { AreBounded rows.now }
     requires judged { IsJudged (board_in rows.now) board.now }
+    requires remark { IsRemarkOn board.now (board_in rows.now) remark.now }
+    requires exit { IsWayOut (board_in rows.now) exit.now }
     ensures { (n : ℕ) (listed : Listed) → head.now ≡ check_line n listed → board.now ≡ listed.board →
         OnOk result (Tells wanted n listed (board_in rows.now) rows.now.places.items remark.now page.old page.new) }
 {
@@ -170,10 +189,11 @@ fn put_found(
     }
     page.text.put(head.as_slice())?;
     put_remark(&mut page.text, rows, remark)?;
+    put_further(alloc, &mut page.text, rows, board, exit)?;
     page.sound &= remark.is_sound();
     let lost = lost_with(page.lost, remark)?;
     page.lost = lost;
-    if is_drawn(remark, wanted) {
+    if is_drawn(exit, wanted) {
         return put_drawn(alloc, &mut page.text, rows, board);
     }
     Ok(())
@@ -195,8 +215,18 @@ fn put_judged(
         Tells wanted n (listed_of entry) (board_in rows.now) rows.now.places.items remark page.old page.new) }
 {
     let listed = entry.into_entry(alloc)?;
-    let remark = remark_of(alloc, &listed.board, rows)?;
-    put_found(alloc, page, head, rows, &listed.board, &remark, wanted)
+    let exit = exit_in(alloc, &listed.board, rows)?;
+    let remark = remark_of(alloc, &listed.board, rows, &exit)?;
+    put_found(
+        alloc,
+        page,
+        head,
+        rows,
+        &listed.board,
+        &remark,
+        &exit,
+        wanted,
+    )
 }
 
 /// Appends what is written of a level that is too large.

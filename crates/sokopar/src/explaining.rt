@@ -9,9 +9,9 @@ use crate::source::Source;
 use std::alloc::Global;
 
 /// Explains the levels of a collection, or the one with this number, counted from 1: writes where and why each is
-/// faulty, which lines with a wall are no rows, and which boxes make a lawful level unsolvable from the start. Returns
-/// the exit status: 0 if each of these levels is lawful and nothing was found against it, otherwise 1. The faults are
-/// those of [`run_check`](crate::run_check).
+/// faulty, with all its faults, which lines with a wall are no rows, and which boxes make a lawful level unsolvable from
+/// the start. Returns the exit status: 0 if each of these levels is lawful and nothing was found against it, otherwise
+/// 1. The faults are those of [`run_check`](crate::run_check).
 #[tactic(auto, using(crate::proofs::Reading::stops_after))]
 pub fn run_explain<S: Source, K: Sink>(
     alloc: Global,

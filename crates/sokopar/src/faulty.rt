@@ -1,11 +1,11 @@
 //! The remark on a faulty board.
-ghost use Rattle.std.specs.Prelude.{◌≡◌, ◌≤◌, length, slice_index_or, IfOk};
+ghost use Rattle.std.specs.Prelude.{◌≡◌, ◌≤◌, length, slice_get, IfOk};
 ghost use Rattle.grid.specs.Lawful.{HasFault};
 ghost use Rattle.grid.specs.Squares.{places_from};
 ghost use Rattle.sokopar.specs.Explaining.{IsRemarkOnFault};
-ghost use Rattle.sokopar.specs.inside.Explaining.{AreBounded, board_in, is_kind, is_open, is_unequal};
+ghost use Rattle.sokopar.specs.inside.Explaining.{AreBounded, IsWayOut, board_in, is_kind, is_open, is_unequal};
 
-use crate::exits::exit_of;
+use crate::exits::exit_from;
 use crate::remark::Remark;
 use grid::{Cell, LevelFault, Square};
 use std::alloc::{AllocError, Global};
@@ -64,27 +64,41 @@ fn is_unequal(fault: LevelFault) -> bool
 }
 
 /// Whether the player gets out.
-fn is_open(fault: LevelFault) -> bool
+pub(crate) fn is_open(fault: LevelFault) -> bool
     ensures { result ≡ is_open fault }
 {
     matches!(fault, LevelFault::Open)
 }
 
-/// The first of the squares; 0 if there is none.
-fn first_of(squares: &[Square]) -> Square
-    ensures { result ≡ slice_index_or squares.now 0 0 }
+/// The first of the squares.
+fn first_of(squares: &[Square]) -> Option<Square>
+    ensures { result ≡ slice_get squares.now 0 }
 {
-    squares.first().copied().unwrap_or(Square(0))
+    squares.first().copied()
 }
 
-/// The remark on a faulty board that is none too large.
+/// Where the player, of several the first, gets out of a board; `None` if nowhere.
+pub(crate) fn exit_of(alloc: Global, rows: &BoardRows) -> Result<Option<Square>, AllocError>
+    requires bounds { AreBounded rows.now }
+    ensures { IfOk result (IsWayOut (board_in rows.now)) }
+{
+    let players = squares_with(alloc, Kind::Player, rows)?;
+    let Some(player) = first_of(players.as_slice()) else {
+        return Ok(None);
+    };
+    exit_from(alloc, rows, player)
+}
+
+/// The remark on a faulty board that is none too large, given where the player gets out.
 pub(crate) fn remark_of_fault(
     alloc: Global,
     fault: LevelFault,
     rows: &BoardRows,
+    exit: &Option<Square>,
 ) -> Result<Remark, AllocError>
     requires bounds { AreBounded rows.now }
     requires fault { HasFault (board_in rows.now) fault }
+    requires exit { IsWayOut (board_in rows.now) exit.now }
     ensures { IfOk result (IsRemarkOnFault fault (board_in rows.now)) }
 {
     if is_unequal(fault) {
@@ -92,10 +106,12 @@ pub(crate) fn remark_of_fault(
         let goals = squares_with(alloc, Kind::Goal, rows)?;
         return Ok(Remark::Unequal { boxes, goals });
     }
-    let players = squares_with(alloc, Kind::Player, rows)?;
     if is_open(fault) {
-        let square = exit_of(alloc, rows, first_of(players.as_slice()))?;
-        return Ok(Remark::Exit(square));
+        let Some(square) = exit else {
+            unreachable!();
+        };
+        return Ok(Remark::Exit(*square));
     }
+    let players = squares_with(alloc, Kind::Player, rows)?;
     Ok(Remark::Players(players))
 }

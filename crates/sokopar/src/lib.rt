@@ -30,6 +30,7 @@ mod explaining;
 mod fault;
 mod faulty;
 mod folder;
+mod further;
 mod given;
 mod judge;
 mod judges;

@@ -1,12 +1,12 @@
 -- The parts of what `explain` writes that functions of their own find.
 use Rattle.std.specs.Prelude.{◌≡◌, ◌≢◌, ◌==◌, ℕ, ◌/◌, ◌%◌, ◌≤◌, Bool, true, false, cond, nat_lt}
-use Rattle.std.specs.Prelude.{List, [], ◌∷◌, ◌++◌, codes, decimal, length, drop, Option, IfSome}
+use Rattle.std.specs.Prelude.{List, [], ◌∷◌, ◌++◌, codes, decimal, length, drop, Option, IfSome, MatchOption}
 use Rattle.grid.specs.declared.cell.Cell.{Cell}
 use Rattle.grid.specs.declared.fault.LevelFault.{LevelFault}
-use Rattle.grid.specs.declared.fault.LevelFault.TheVariants.{NoBox, Counts, Open}
+use Rattle.grid.specs.declared.fault.LevelFault.TheVariants.{NoPlayer, TwoPlayers, NoBox, Counts, Open}
 use Rattle.grid.specs.declared.limits.TheConstants.{MAX_ROWS, MAX_COLS}
 use Rattle.grid.specs.Board.{Board, box_cell, goal_cell, player_cell}
-use Rattle.grid.specs.Lawful.{row_count}
+use Rattle.grid.specs.Lawful.{IsOpen, player_count, row_count}
 use Rattle.grid.specs.inside.Filling.{IsFilling, work}
 use Rattle.grid.specs.Squares.{Squares, contains}
 use Rattle.doom.specs.Deadlocks.{IsFrozen}
@@ -14,8 +14,9 @@ use Rattle.xsb.specs.Breaks.{IsBroken}
 use Rattle.xsb.specs.declared.breaks.BrokenRow.{BrokenRow}
 use Rattle.xsb.specs.declared.breaks.BrokenRows.{BrokenRows}
 use Rattle.xsb.specs.declared.places.BoardRows.{BoardRows}
+use Rattle.xsb.specs.declared.places.RowPlace.{RowPlace}
 use Rattle.xsb.specs.inside.Breaking.{IsPastLine}
-use Rattle.sokopar.specs.Explaining.{AreIn, endangered}
+use Rattle.sokopar.specs.Explaining.{AlsoTold, AreIn, IsExit, endangered}
 use Rattle.sokopar.specs.declared.remark.Plight.{Plight}
 use Rattle.sokopar.specs.declared.remark.Plight.TheVariants.{Unreached, Unfilled, OnDead}
 use Rattle.sokopar.specs.Report.{line}
@@ -50,6 +51,29 @@ is_unequal fault = false
 abbrev pub is_open : LevelFault → Bool
 is_open Open = true
 is_open fault = false
+
+-- the number of players is at fault
+abbrev pub is_of_players : LevelFault → Bool
+is_of_players NoPlayer = true
+is_of_players TwoPlayers = true
+is_of_players fault = false
+
+-- what is wrong with these numbers of boxes and goals
+abbrev pub unequal_faults : ℕ → ℕ → List LevelFault
+unequal_faults boxes goals = cond (boxes == 0) (NoBox ∷ []) (cond (boxes == goals) [] (Counts boxes goals ∷ []))
+
+-- the grid ends beside a square to which steps lead from the player; none if there is no such square
+abbrev pub IsExitOrNone : Board → Option ℕ → Type 0
+IsExitOrNone board exit = MatchOption exit (¬ (IsOpen board)) (IsExit board)
+
+-- the square is where the player gets out of a board; none if there is no player, or it does not get out
+abbrev pub IsWayOut : Board → Option ℕ → Type 0
+IsWayOut board exit = MatchOption exit (¬ ((player_count board ≢ 0) × IsOpen board))
+    (λ q. (player_count board ≢ 0) × IsExit board q)
+
+-- text on these faults is added
+abbrev pub AddsFaults : Board → List RowPlace → List LevelFault → List ℕ → List ℕ → Type 0
+AddsFaults board places faults old new = (text : List ℕ) × AlsoTold board places faults text × (new ≡ old ++ text)
 
 -- after a look round from one square the pending squares from place `from` on are still to be looked round from, and no
 -- more of them and of unmarked squares are left

@@ -1,6 +1,7 @@
 -- How `explain` goes from level to level.
-use Rattle.std.specs.Prelude.{◌≡◌, ℕ, suc, ◌+◌, ◌++◌, Bool, true, cond, ◌&&◌, List, Option, Some, None}
+use Rattle.std.specs.Prelude.{◌≡◌, ℕ, suc, ◌+◌, ◌++◌, Bool, true, cond, ◌&&◌, List, drop, Option, Some, None}
 use Rattle.grid.specs.Board.{Board}
+use Rattle.grid.specs.declared.fault.LevelFault.{LevelFault}
 use Rattle.xsb.specs.Collection.{Found, IsJudged}
 use Rattle.xsb.specs.declared.breaks.BrokenRow.{BrokenRow}
 use Rattle.xsb.specs.declared.breaks.BrokenRows.{BrokenRows}
@@ -8,7 +9,7 @@ use Rattle.xsb.specs.declared.places.BoardSource.{BoardSource}
 use Rattle.xsb.specs.declared.places.RowPlace.{RowPlace}
 use Rattle.xsb.specs.inside.Breaking.{rows_left}
 use Rattle.xsb.specs.inside.Sources.{HasRowsFor}
-use Rattle.sokopar.specs.Explaining.{Explains, IsPicture, is_drawn, is_sound, is_unsolvable, level_text}
+use Rattle.sokopar.specs.Explaining.{AlsoTold, AreFaults, Explains, IsPicture, is_drawn, is_sound, is_unsolvable, level_text}
 use Rattle.sokopar.specs.Listing.{Listed}
 use Rattle.sokopar.specs.declared.explain.Broken.{Broken}
 use Rattle.sokopar.specs.declared.explain.Page.{Page}
@@ -25,11 +26,18 @@ abbrev pub Adds : List ℕ → Bool → Bool → Page → Page → Type 0
 Adds more sound is_lost old new = (new.text ≡ old.text ++ more) × (new.sound ≡ (old.sound && sound)) ×
     (new.lost ≡ cond is_lost (old.lost + 1) old.lost)
 
--- a level is written about, with its picture if it is drawn
-abbrev pub Tells : Option ℕ → ℕ → Listed → Board → List RowPlace → Remark → Page → Page → Type 0
-Tells wanted n listed board places remark old new =
-    (picture : List ℕ) × (is_drawn remark wanted ≡ true → IsPicture listed.board board.cells picture) ×
-    Adds (level_text wanted n listed board places remark picture) (is_sound remark) (is_unsolvable remark) old new
+-- a level is written about, with its further faults, and with its picture if it is drawn
+pub record Tells (wanted : Option ℕ) (n : ℕ) (listed : Listed) (board : Board) (places : List RowPlace) (remark : Remark)
+    (old new : Page) : Type 0 where
+  pub out : Bool
+  pub faults : List LevelFault
+  pub besides : List ℕ
+  pub picture : List ℕ
+  pub are : AreFaults board out faults
+  pub told : AlsoTold board places (drop 1 faults) besides
+  pub shown : is_drawn out wanted ≡ true → IsPicture listed.board board.cells picture
+  pub adds : Adds (level_text wanted n listed board places remark besides out picture) (is_sound remark)
+      (is_unsolvable remark) old new
 
 -- the board of the source, and its rows
 abbrev pub IsSourceOf : BoardSource → Found → Type 0

@@ -39,10 +39,10 @@ turns-smaller c =
     (HasTurned board (c.turns.turn + 1) c.turns.marks c.turns.pending.items c.look_round.new.marks c.look_round.new.pending.items))
     c.if-ends.false c.in_ok-ends.ensures)
 
-pub unreachable-requires : goal.unreachable-requires
-unreachable-requires c =
+pub returns : goal.returns
+returns c =
     let none = ap (λ (ps : Squares). slice_get ps c.turns.turn) (sym c.as_slice.ensures.value) ∙ sym c.pending_at.ensures ∙ c.in_default.is in
-    no_exit (board_in c.args.rows.now) c.turns.turn c.turns.marks c.turns.pending.items c.turns.invariant none c.requires.open
+    no_exit (board_in c.args.rows.now) c.turns.turn c.turns.marks c.turns.pending.items c.turns.invariant none
 
 pub overflow_add-turn : goal.overflow_add-turn
 overflow_add-turn c =
