@@ -9,8 +9,8 @@ _sokopar() {
         dead) options="--help" ;;
         replay) options="--solutions --from --to --table --help" ;;
         solve) options="--workers --locks --limit --max-pushes --lurd --help" ;;
-        best) options="--from --to --workers --limit --max-pushes --moves --table --lurd --progress --help" ;;
-        prove) options="--solutions --from --to --workers --limit --moves --table --lurd --progress --help" ;;
+        best) options="--from --to --workers --limit --seconds --max-pushes --moves --table --lurd --progress --help" ;;
+        prove) options="--solutions --from --to --workers --limit --seconds --moves --table --lurd --progress --help" ;;
         help) options="check explain show dead replay solve best prove"; compopt +o default ;;
         *) options= ;;
     esac
@@ -19,7 +19,7 @@ _sokopar() {
         compopt +o default
     fi
     case ${COMP_WORDS[COMP_CWORD - 1]} in
-        --from | --to | --workers | --locks | --limit | --max-pushes) compopt +o default; return ;; # a number
+        --from | --to | --workers | --locks | --limit | --max-pushes | --seconds) compopt +o default; return ;; # a number
         --solutions) compopt -o filenames; mapfile -t COMPREPLY < <(compgen -d -- "$word"); return ;;
     esac
     if [ "$COMP_CWORD" = 1 ] || [[ $word == -* || ${COMP_WORDS[1]} == help ]]; then

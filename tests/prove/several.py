@@ -1,21 +1,23 @@
-"""Reports on several levels: what `--progress` prints of each, the limit and the solution that each gets."""
+"""What `--progress` and `--seconds` do, and the limit and the solution that each of several levels gets."""
 import os
 import re
 import subprocess
-import tempfile
+import time
 
 import shims
 import trials
 
 HERE = os.path.dirname(os.path.abspath(__file__))
 BENCH = os.path.join(os.path.dirname(os.path.dirname(HERE)), "bench")
-PROGRESS = re.compile(rb"level (\d+): at least (\d+) pushes, (\d+) positions\n")
+PROGRESS = re.compile(rb"level (\d+)( of \d+)?: at least (\d+) pushes(, given \d+)?, "
+                      rb"(\d+) of (\d+) positions, (\d+) s\n")
+NEAR = re.compile(rb"near the solution: \d+ pushes, \d+ moves\n")
 BOUND = re.compile(rb"limit (\d+) reached, at least (\d+) pushes")
 
 # the levels of bench/dense.xsb whose progress is compared, and the limit: some of them are open there
 FIRST, LAST, LIMIT = 5, 7, 3_000
-# the first line of a level comes at 100 positions, and each next one at twice as many or before; a round may find more
-FIRST_FOUND, MORE = 100, 100
+# a level that no search decides in this many seconds, its limit of positions, and the pushes of its solution
+SECONDS, GREAT_LIMIT, PUSHES = 3, 1_000_000_000, 83
 # how many levels a long folder has, and the one of each seven that has no solution
 LEVELS, MISSING = 105, 3
 # a level of bench/dense.xsb, the least limit that decides it for each command, where `prove` gets a solution with two
@@ -60,44 +62,57 @@ def line_fault(room, command, number, bound, found):
     return None if is_right else f"at least {before} with {found - 1} positions, {after} with {found}"
 
 
-def level_fault(lines, is_open):
-    """What is wrong with the numbers of positions in the lines of a level: a line comes as soon as it is due."""
-    found = [int(it[2]) for it in lines]
-    due = [FIRST_FOUND, *(2 * it for it in found)]
-    if not found:
-        return "no line"
-    is_right = all(late <= it + MORE for it, late in zip(due, found))
-    is_right &= all(4 * late >= 5 * it for it, late in zip(found, found[1:]))
-    is_right &= found[-1] <= LIMIT + MORE and (not is_open or 2 * found[-1] >= LIMIT)
-    return None if is_right else f"{lines}"
+def told_fault(err, seconds, heads):
+    """What is wrong with lines of progress, printed within some seconds: at most one a second, each of a level with the
+    right last level, given pushes and limit, and for each level bounds and times that rise."""
+    lines, count = PROGRESS.findall(err), len(PROGRESS.findall(err)) + len(NEAR.findall(err))
+    is_right = NEAR.sub(b"", PROGRESS.sub(b"", err)) == b"" and count <= seconds + 1
+    is_right &= all((last, given, int(most)) == heads.get(int(number)) for number, last, _, given, _, most, _ in lines)
+    told = [tuple(map(int, (number, bound, found, time))) for number, _, bound, _, found, _, time in lines]
+    is_right &= all(a <= b for one, two in zip(told, told[1:]) if one[0] == two[0] for a, b in zip(one, two))
+    return None if is_right and [it[0] for it in told] == sorted(it[0] for it in told) else f"{err!r}"
 
 
 def progress(program, folder, collection, solutions):
-    """The lines of progress of levels in a range, and of those of a folder: of each level its own, the same as alone,
-    and each agrees with the reports at lesser limits. The report does not depend on them, also if none can be
-    written."""
+    """Levels in a range, and those of a folder, with `--progress`: the report does not depend on it, also if no line
+    can be written, nor on so many seconds that no search needs them."""
     room = Room(program, folder, collection, solutions)
     for command in ("best", "prove"):
         options = ["--from", FIRST, "--to", LAST, "--limit", LIMIT]
-        silent, (status, out, err) = room.run(command, *options), room.run(command, *options, "--progress")
+        begun, silent = time.monotonic(), room.run(command, *options)
+        status, out, err = room.run(command, *options, "--progress")
+        seconds = time.monotonic() - begun
         yield f"{command}, report", trials.differs((status, out), silent[:2])
-        lines = PROGRESS.findall(err)
-        numbers = [int(it[0]) for it in lines]
-        is_whole = PROGRESS.sub(b"", err) == b"" and numbers == sorted(numbers)
-        yield f"{command}, lines", None if is_whole and {*numbers} == {*range(FIRST, LAST + 1)} else f"{err!r}"
-        for number in range(FIRST, LAST + 1):
-            own = [it for it in lines if int(it[0]) == number]
-            alone = room.run(command, "--limit", LIMIT, "--progress", level=number)
-            yield f"{command}, level {number} alone", trials.differs(own, PROGRESS.findall(alone[2]))
-            yield f"{command}, level {number}", level_fault(own, bound_of(alone[1], LIMIT)[1])
-            for _, bound, found in own:
-                yield f"{command}, level {number}, {found.decode()} positions", line_fault(
-                    room, command, number, int(bound), int(found))
+        given = {n: b", given %d" % sum(map(str.isupper, it.decode())) for n, it in solutions.items()}
+        numbers = range(FIRST, LAST + 1)
+        heads = {n: (b" of %d" % LAST, given[n] if command == "prove" else b"", LIMIT) for n in numbers}
+        yield f"{command}, lines", told_fault(err, seconds, heads)
         with open("/dev/full", "wb") as full:
             words = [program, command, "levels.xsb", *(["--solutions", "solutions"] if command == "prove" else [])]
             done = subprocess.run([*words, *map(str, options), "--progress"], cwd=folder, stdout=subprocess.PIPE,
                                   stderr=full)
         yield f"{command}, no line", trials.differs((done.returncode, done.stdout), silent[:2])
+        yield f"{command}, ample time", trials.differs(room.run(command, *options, "--seconds", 1_000_000), silent)
+
+
+def timed(program, folder, level, solution):
+    """A level that takes far longer, with `--seconds` and `--progress`: the search ends at the limit of seconds with a
+    right bound. The lines on standard error begin, and the first agrees with the reports at lesser limits."""
+    room = Room(program, folder, level, {1: solution})
+    for command in ("best", "prove"):
+        begun = time.monotonic()
+        status, out, err = room.run(command, "--seconds", SECONDS, "--limit", GREAT_LIMIT, "--progress", level=1)
+        told = re.search(rb"limit %d seconds reached, at least (\d+) pushes" % SECONDS, out)
+        is_right = told is not None and 0 < int(told[1]) < PUSHES and status == (1 if out.startswith(b"not") else 4)
+        yield f"{command}, report", None if is_right else f"{status}, {out!r}"
+        given = b", given %d" % PUSHES if command == "prove" else b""
+        yield f"{command}, lines", told_fault(err, time.monotonic() - begun, {1: (b"", given, GREAT_LIMIT)})
+        lines = PROGRESS.findall(err)
+        first = lines and line_fault(room, command, 1, int(lines[0][2]), int(lines[0][4]))
+        yield f"{command}, first line", first if lines else "none"
+    table = room.run("best", "--seconds", SECONDS, "--limit", GREAT_LIMIT, "--table")
+    cells = table[1].split(b"\n")[1].split(b"\t")
+    yield "table", None if table[0] == 4 and cells[10] == b"%d s" % SECONDS else f"{table}"
 
 
 def long_folder(program, folder):

@@ -45,6 +45,7 @@ is_simple_rule argument.Solutions = refl
 is_simple_rule argument.Workers = refl
 is_simple_rule argument.Locks = refl
 is_simple_rule argument.Limit = refl
+is_simple_rule argument.Seconds = refl
 is_simple_rule argument.MaxPushes = refl
 is_simple_rule argument.From = refl
 is_simple_rule argument.To = refl

@@ -9,7 +9,8 @@ use Rattle.clap.specs.declared.parser.matches.ArgMatches.{ArgMatches}
 use Rattle.cli.specs.declared.arguments.Argument.{Argument}
 use Rattle.cli.specs.declared.arguments.Argument.TheVariants.{File, Number, OptionalNumber, OptionalSolution}
 use Rattle.cli.specs.declared.arguments.Argument.TheVariants.{Solutions, Workers, Locks}
-use Rattle.cli.specs.declared.arguments.Argument.TheVariants.{Limit, MaxPushes, From, To, Moves, Table, Lurd, Progress}
+use Rattle.cli.specs.declared.arguments.Argument.TheVariants.{Limit, Seconds, MaxPushes, From, To, Moves, Table, Lurd}
+use Rattle.cli.specs.declared.arguments.Argument.TheVariants.{Progress}
 use Rattle.cli.specs.declared.request.Request.{Request}
 use Rattle.cli.specs.declared.subcommands.Subcommand.{Subcommand}
 use Rattle.cli.specs.declared.subcommands.Subcommand.TheVariants.{Check, Explain, Show, Dead, Replay, Solve, Best, Prove}
@@ -24,10 +25,10 @@ arguments_of Show = File ∷ OptionalNumber ∷ From ∷ To ∷ []
 arguments_of Dead = File ∷ Number ∷ []
 arguments_of Replay = File ∷ OptionalNumber ∷ OptionalSolution ∷ Solutions ∷ From ∷ To ∷ Table ∷ []
 arguments_of Solve = File ∷ Number ∷ Workers ∷ Locks ∷ Limit ∷ MaxPushes ∷ Lurd ∷ []
-arguments_of Best = File ∷ OptionalNumber ∷ From ∷ To ∷ Workers ∷ Limit ∷ MaxPushes ∷ Moves ∷ Table ∷
+arguments_of Best = File ∷ OptionalNumber ∷ From ∷ To ∷ Workers ∷ Limit ∷ Seconds ∷ MaxPushes ∷ Moves ∷ Table ∷
     Lurd ∷ Progress ∷ []
-arguments_of Prove = File ∷ OptionalNumber ∷ OptionalSolution ∷ Solutions ∷ From ∷ To ∷ Workers ∷ Limit ∷ Moves ∷
-    Table ∷ Lurd ∷ Progress ∷ []
+arguments_of Prove = File ∷ OptionalNumber ∷ OptionalSolution ∷ Solutions ∷ From ∷ To ∷ Workers ∷ Limit ∷
+    Seconds ∷ Moves ∷ Table ∷ Lurd ∷ Progress ∷ []
 
 -- clap's rule for an operand that must be given, and for one that may be left out
 abbrev pub operand : List ℕ → Rule
@@ -57,6 +58,7 @@ rule_for Solutions = option (codes "solutions")
 rule_for Workers = option_or (codes "workers") (codes "1")
 rule_for Locks = option_or (codes "locks") (codes "1")
 rule_for Limit = option_or (codes "limit") (codes "1000000")
+rule_for Seconds = option (codes "seconds")
 rule_for MaxPushes = option (codes "max-pushes")
 rule_for From = option (codes "from")
 rule_for To = option (codes "to")

@@ -1,13 +1,14 @@
 -- What performing a request does: which engine runs, on which files, and with which settings.
-use Rattle.std.specs.Prelude.{◌≡◌, ℕ, ◌⊎◌, ◌++◌, List, [], Option, Some, None, Result, Ok, Err, true, false, codes, decimal, ⊤}
+use Rattle.std.specs.Prelude.{◌≡◌, ℕ, Bool, false, true, ◌⊎◌, ◌++◌, List, [], Option, Some, None, Result, Ok, Err, codes}
+use Rattle.std.specs.Prelude.{decimal, ⊤}
 use Rattle.sokopar.specs.DeadMap.{IsDeadReport}
 use Rattle.sokopar.specs.Ends.{Seen}
 use Rattle.sokopar.specs.OneReport.{IsOnlySolveReport}
 use Rattle.sokopar.specs.Explaining.{IsExplainReport}
-use Rattle.sokopar.specs.Levels.{BeginsReport, IsBestLine, IsProveLine, IsReport}
+use Rattle.sokopar.specs.Levels.{IsBestLine, IsProveLine, IsReport}
 use Rattle.sokopar.specs.OneLevel.{IsLevelReport}
-use Rattle.sokopar.specs.Report.{Report, IsCheckReport, IsReplayReport, IsShowReport, Written, WrittenOfTwo}
-use Rattle.sokopar.specs.Runs.{Runs, RunsByLine, RunsInTwo}
+use Rattle.sokopar.specs.Report.{Report, IsCheckReport, IsReplayReport, IsShowReport}
+use Rattle.sokopar.specs.Runs.{Reads, ReadsBeside, Runs, RunsByLine, WithSolution}
 use Rattle.sokopar.specs.Showing.{IsRangeReport}
 use Rattle.sokopar.specs.declared.fault.RunFault.{RunFault}
 use Rattle.sokopar.specs.declared.fault.RunFault.TheVariants.{OutOfMemory}
@@ -41,59 +42,6 @@ abbrev pub CannotOpen : (List ℕ → Type 0) → List ℕ → Trouble → Type 
 CannotOpen refuses path (trouble.Open named) = (named.now ≡ path) × refuses path
 CannotOpen refuses path (trouble.Run fault) = fault ≡ OutOfMemory
 
--- `opens` says what opening a path gives, a file or that there is none, `seen` what contracts see of a file, `output` and
--- `written` what they see of the output before and after
-module _ {File : Type 0} (opens : List ℕ → Option File → Type 0) (seen : File → Seen) (output written : Seen) where
-  -- an engine with these reports ran on the file at this path and on the output, and ended with this result
-  pub record RunsOn (IsReport : List ℕ → Report → Type 0) (path : List ℕ) (result : Result ℕ RunFault) : Type 0 where
-    pub file : File
-    pub read : File
-    pub opened : IsOpened opens seen path file
-    pub runs : Runs IsReport (seen file) (seen read) output written result
-
-  -- an engine that writes its report line by line ran on the file at this path and on the output, and ended with this
-  -- result
-  pub record RunsOnByLine (IsReport : List ℕ → List (List ℕ) → ℕ → Type 0)
-      (Begins : List ℕ → List (List ℕ) → Type 0) (path : List ℕ) (result : Result ℕ RunFault) : Type 0 where
-    pub file : File
-    pub read : File
-    pub opened : IsOpened opens seen path file
-    pub runs : RunsByLine IsReport Begins (seen file) (seen read) output written result
-
-  -- an engine with these reports of level n ran on the files at these paths and on the output, and ended with this
-  -- result
-  pub record RunsOnTwo (IsReport : List ℕ → Option (List ℕ) → Report → Type 0) (n : ℕ) (path second_path : List ℕ)
-      (result : Result ℕ RunFault) : Type 0 where
-    pub file : File
-    pub read : File
-    pub second : File
-    pub second_read : File
-    pub opened : IsOpened opens seen path file
-    pub second_opened : IsOpened opens seen second_path second
-    pub runs : RunsInTwo IsReport n (seen file) (seen read) (seen second) (seen second_read) output written result
-
-  -- the engine of the task ran with its settings on the file at this path, and on that of the solution, and ended with
-  -- this result. `refuses` says of which paths opening fails
-  abbrev pub RunsEngine : (List ℕ → Type 0) → List ℕ → Task → Result ℕ RunFault → Type 0
-  RunsEngine refuses path Check = RunsOn IsCheckReport path
-  RunsEngine refuses path (Explain number) = RunsOn (IsExplainReport number) path
-  RunsEngine refuses path (Show number) = RunsOn (IsShowReport number) path
-  RunsEngine refuses path (ShowRange from to) = RunsOn (IsRangeReport from to) path
-  RunsEngine refuses path (Dead number) = RunsOn (IsDeadReport number) path
-  RunsEngine refuses path (Replay number solution) = RunsOnTwo (IsReplayReport number) number path solution.now
-  RunsEngine refuses path (Solve search) =
-      RunsOn (Written search.lurd (IsOnlySolveReport search.config.cap search.config.limit search.number)) path
-  RunsEngine refuses path (Best search) =
-      RunsOn (Written search.lurd (λ bytes. IsLevelReport false search.settings search.number bytes None)) path
-  RunsEngine refuses path (BestCollection search) =
-      RunsOnByLine (IsReport (IsBestLine search) None search) (BeginsReport (IsBestLine search) search) path
-  RunsEngine refuses path (Prove search solution) =
-      RunsOnTwo (WrittenOfTwo search.lurd (IsLevelReport true search.settings search.number)) search.number path
-      solution.now
-  RunsEngine refuses path (ProveCollection search folder) =
-      RunsOnByLine (IsReport (IsProveLine (OpensSolution opens refuses folder.now) seen search) (Some folder.now) search)
-      (BeginsReport (IsProveLine (OpensSolution opens refuses folder.now) seen search) search) path
-
 -- the solution of the task, or the folder of its solutions, could not be opened, or memory ran out
 abbrev pub CannotOpenSolution : (List ℕ → Type 0) → Task → Trouble → Type 0
 CannotOpenSolution refuses (Replay number solution) why = CannotOpen refuses solution.now why
@@ -101,11 +49,10 @@ CannotOpenSolution refuses (Prove search solution) why = CannotOpen refuses solu
 CannotOpenSolution refuses (ProveCollection search folder) why = CannotOpen refuses folder.now why
 CannotOpenSolution refuses task why = ⊥
 
--- how performing ends: as an engine ended, or since a file could not be opened
-abbrev pub EndsBy : (Result ℕ RunFault → Type 0) → (Trouble → Type 0) → Result ℕ Trouble → Type 0
-EndsBy Ran Fails (Ok status) = Ran (Ok status)
-EndsBy Ran Fails (Err (trouble.Run fault)) = Ran (Err fault) ⊎ Fails (trouble.Run fault)
-EndsBy Ran Fails (Err (trouble.Open path)) = Fails (trouble.Open path)
+-- the result of an engine as that of its task
+abbrev pub passed_on : Result ℕ RunFault → Result ℕ Trouble
+passed_on (Ok status) = Ok status
+passed_on (Err fault) = Err (trouble.Run fault)
 
 -- the exit status where there is no whole report
 abbrev pub trouble_status : Trouble → ℕ
@@ -117,18 +64,51 @@ trouble_status other = 3
 abbrev pub ExitsWithout : List (List ℕ) → ℕ → Type 0
 ExitsWithout words status = (status ≡ 5) ⊎ (IsNoRequest words × ((status ≡ 0) ⊎ (status ≡ 2) ⊎ (status ≡ 3)))
 
--- `refuses` says of which paths opening fails
+-- `opens` says what opening a path gives, a file or that there is none, `refuses` of which paths it fails, `seen` what
+-- contracts see of a file, `output` and `written` what they see of the output before and after
 module _ {File : Type 0} (opens : List ℕ → Option File → Type 0) (refuses : List ℕ → Type 0) (seen : File → Seen)
     (output written : Seen) where
-  -- no engine ran since a file of the task could not be opened, and nothing was written
-  abbrev pub OpensNone : List ℕ → Task → Trouble → Type 0
-  OpensNone path task why =
-      (CannotOpen refuses path why ⊎ CannotOpenSolution refuses task why) × (written ≡ output)
+  -- an engine with these reports of level n ran on the collection and on the file of a solution at this path
+  abbrev pub RunsOnTwo : Bool → (List ℕ → Option (List ℕ) → Report → Type 0) → ℕ → List ℕ → Seen → Seen →
+      Result ℕ RunFault → Type 0
+  RunsOnTwo lurd IsReport n path source read result =
+      (file : File) × (file_read : File) × IsOpened opens seen path file ×
+      Runs (ReadsBeside n source read (seen file) (seen file_read)) lurd
+      (WithSolution IsReport (seen file) (seen file_read)) output written result
 
-  -- what performing a task on the file at this path does, by its result: its engine ran on its files and wrote its
-  -- report; or one of the files could not be opened, and nothing was written
+  -- the engine of the task ran with its settings on the collection, of which contracts see `source` before and `read`
+  -- after it, and on the file of the solution, and ended with this result
+  abbrev pub RunsEngine : Task → Seen → Seen → Result ℕ RunFault → Type 0
+  RunsEngine Check source read = Runs (Reads source read) false IsCheckReport output written
+  RunsEngine (Explain number) source read = Runs (Reads source read) false (IsExplainReport number) output written
+  RunsEngine (Show number) source read = Runs (Reads source read) false (IsShowReport number) output written
+  RunsEngine (ShowRange from to) source read = Runs (Reads source read) false (IsRangeReport from to) output written
+  RunsEngine (Dead number) source read = Runs (Reads source read) false (IsDeadReport number) output written
+  RunsEngine (Replay number solution) source read =
+      RunsOnTwo false (IsReplayReport number) number solution.now source read
+  RunsEngine (Solve search) source read =
+      Runs (Reads source read) search.lurd
+      (IsOnlySolveReport search.config.cap search.config.limit search.number) output written
+  RunsEngine (Best search) source read =
+      Runs (Reads source read) search.lurd
+      (λ bytes. IsLevelReport false search.settings search.number bytes None) output written
+  RunsEngine (BestCollection search) source read =
+      RunsByLine (IsReport (IsBestLine search) None search) source read output written
+  RunsEngine (Prove search solution) source read =
+      RunsOnTwo search.lurd (IsLevelReport true search.settings search.number) search.number solution.now source read
+  RunsEngine (ProveCollection search folder) source read =
+      RunsByLine
+      (IsReport (IsProveLine (OpensSolution opens refuses folder.now) seen search) (Some folder.now) search)
+      source read output written
+
+  -- what performing a task on the file at this path does, by its result: its engine ran on its files, which were opened
+  -- before; or one of them could not be opened, and nothing was written
   abbrev pub Performs : List ℕ → Task → Result ℕ Trouble → Type 0
-  Performs path task result = EndsBy (RunsEngine opens seen output written refuses path task) (OpensNone path task) result
+  Performs path task result =
+      ((file : File) × (read : File) × (ran : Result ℕ RunFault) × IsOpened opens seen path file ×
+      RunsEngine task (seen file) (seen read) ran × (result ≡ passed_on ran)) ⊎
+      ((why : Trouble) × (result ≡ Err why) ×
+      (CannotOpen refuses path why ⊎ CannotOpenSolution refuses task why) × (written ≡ output))
 
   -- the program's exit status for a request: that of the report, or that of the trouble
   abbrev pub Exits : Request → ℕ → Type 0

@@ -23,16 +23,17 @@ pub record AsksToSolve (arguments : List Row) (search : SolveRequest) : Type 0 w
   pub cap : MayHaveNumber arguments (codes "max-pushes") 0 MOST search.config.cap
   pub lurd : HasFlag arguments (codes "lurd") search.lurd
 
--- the workers and the limit of `best` and `prove` are the numbers of the arguments; they look for the fewest moves
--- exactly if the flag is given
-pub record HasSettings (arguments : List Row) (workers limit : ℕ) (moves : Bool) : Type 0 where
+-- the workers and the limits of `best` and `prove` are the numbers of the arguments, and they may lack one of seconds;
+-- they look for the fewest moves exactly if the flag is given
+pub record HasSettings (arguments : List Row) (workers : ℕ) (config : Settings) : Type 0 where
   pub given_workers : HasNumber arguments (codes "workers") MOST_WORKERS workers
-  pub given_limit : HasNumber arguments (codes "limit") MOST limit
-  pub given_moves : HasFlag arguments (codes "moves") moves
+  pub given_limit : HasNumber arguments (codes "limit") MOST config.limit
+  pub given_seconds : MayHaveNumber arguments (codes "seconds") 1 MOST config.seconds
+  pub given_moves : HasFlag arguments (codes "moves") config.moves
 
 -- the settings of `best`, with the cap of pushes, if one is given
 pub record HasConfig (arguments : List Row) (workers : ℕ) (config : Settings) : Type 0 where
-  pub settings : HasSettings arguments workers config.limit config.moves
+  pub settings : HasSettings arguments workers config
   pub cap : MayHaveNumber arguments (codes "max-pushes") 0 MOST config.cap
 
 -- the level is the number of its argument, and neither a range of levels nor the flag for a table is given
@@ -73,12 +74,12 @@ AsksTask subcommand.Best arguments (BestCollection search) =
     HasConfig arguments search.workers search.settings
 AsksTask subcommand.Prove arguments (Prove search solution) =
     NamesLevel arguments search.number × HasFlag arguments (codes "lurd") search.lurd ×
-    HasSettings arguments search.workers search.settings.limit search.settings.moves ×
+    HasSettings arguments search.workers search.settings ×
     HasText arguments (codes "SOLUTION") solution.now × LacksText arguments (codes "solutions")
 AsksTask subcommand.Prove arguments (ProveCollection search folder) =
     NamesRange arguments search.from search.to × HasFlag arguments (codes "table") search.table ×
     (search.proves ≡ true) ×
-    HasSettings arguments search.workers search.settings.limit search.settings.moves ×
+    HasSettings arguments search.workers search.settings ×
     HasText arguments (codes "solutions") folder.now × LacksText arguments (codes "SOLUTION")
 AsksTask subcommand arguments task = ⊥
 

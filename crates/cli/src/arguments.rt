@@ -16,7 +16,7 @@ const DEFAULT_WORKERS: &str = "1";
 /// The default number of locks.
 const DEFAULT_LOCKS: &str = "1";
 
-/// The greatest level number, limit of positions and cap of pushes.
+/// The greatest level number, limit of positions or seconds, and cap of pushes.
 pub(crate) const MOST: u32 = u32::MAX;
 
 /// The greatest number of workers.
@@ -44,6 +44,8 @@ pub enum Argument {
     Locks,
     /// The option `--limit L`.
     Limit,
+    /// The option `--seconds T`.
+    Seconds,
     /// The option `--max-pushes M`.
     MaxPushes,
     /// The option `--from A`.
@@ -74,6 +76,7 @@ impl Argument {
             Argument::Workers => "Number of threads",
             Argument::Locks => "Number of locks, usually best equal to W",
             Argument::Limit => "Stops beyond L positions",
+            Argument::Seconds => "Stops a search after T seconds",
             Argument::MaxPushes => "Looks only for solutions with at most M pushes",
             Argument::From => "Without N: the first level",
             Argument::To => "Without N: the last level",
@@ -98,6 +101,7 @@ impl Argument {
             Argument::Workers => option_or(alloc, "workers", "W", help, DEFAULT_WORKERS),
             Argument::Locks => option_or(alloc, "locks", "K", help, DEFAULT_LOCKS),
             Argument::Limit => option_or(alloc, "limit", "L", help, DEFAULT_LIMIT),
+            Argument::Seconds => option(alloc, "seconds", "T", help),
             Argument::MaxPushes => option(alloc, "max-pushes", "M", help),
             Argument::From => option(alloc, "from", "A", help),
             Argument::To => option(alloc, "to", "B", help),

@@ -48,7 +48,7 @@ Exit status:
      is beaten), 'unsolved', 'blocked', 'wrong case', 'bad', 'too many moves'
   2  a fault of the command line
   3  a file cannot be opened, read or written, or is too long
-  4  the limit of positions was passed
+  4  a search ended at its limit of positions or seconds
   5  out of memory";
 
 /// Examples, in the help of the program.
@@ -292,12 +292,20 @@ and a line for each level, with a tab between two columns, and no totals. The
 verdict is one word, such as optimal, open, unsolvable or fault; the next column
 says what is proved of the numbers: pushes, or pushes and moves.";
 
-/// The lines on standard error, in the help of `best` and `prove`.
-const PROGRESS: &str = "\
-With --progress, lines on standard error show how far a search is:
-  level N: at least K pushes, Q positions
-No solution of level N has fewer than K pushes, and the search has found Q
-positions. These lines are tested, but not proved.";
+/// The limit of seconds, and the lines on standard error, in the help of `best` and `prove`.
+const CLOCK: &str = "\
+With --seconds T, each search also ends once it has run T seconds: that for the
+fewest pushes, that for the fewest moves, and one near a solution. The report
+then says 'limit T seconds reached' in place of 'limit L reached', a table 'T s'
+in the column of the limit. It may differ from run to run.
+
+With --progress, lines on standard error show how far a search is: once its
+bound rises, else every ten seconds, and at most one line a second.
+  level N of B: at least K pushes, given P, Q of L positions, T s
+  near the solution: P pushes, S moves
+No solution of level N has fewer than K pushes, the given one has P, and the
+search has found Q positions in T seconds. The other line is for a search near a
+solution, which has found a better one. These lines are tested, but not proved.";
 
 /// How `best` compares with `solve`, its memory, and examples, in the help of `best`.
 const BEST: &str = "\
@@ -333,7 +341,7 @@ fn best_notes(alloc: Global) -> Result<String, AllocError> {
     format!(in alloc;
         "{FEWEST}\n  \
           too many boxes                         The level has more than {MAX_BOXES} boxes.\n\n\
-        {FEWEST_MOVES}\n\n{ALL_LEVELS}\n\n{PROGRESS}\n\n{BEST}"
+        {FEWEST_MOVES}\n\n{ALL_LEVELS}\n\n{CLOCK}\n\n{BEST}"
     )
 }
 
@@ -417,6 +425,6 @@ fn prove_notes(alloc: Global) -> Result<String, AllocError> {
     format!(in alloc;
         "{JUDGEMENTS}\n  \
           too many boxes                         The level has more than {MAX_BOXES} boxes.\n\n\
-        {MOVES_JUDGED}\n\n{FOLDER}\n\n{PROGRESS}\n\n{PROOF}"
+        {MOVES_JUDGED}\n\n{FOLDER}\n\n{CLOCK}\n\n{PROOF}"
     )
 }

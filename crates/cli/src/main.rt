@@ -5,11 +5,10 @@ ghost use Rattle.std.specs.Prelude.{◌≡◌, ◌⊎◌, map};
 ghost use Rattle.std.specs.String.{string_bytes};
 ghost use Rattle.clap.specs.Values.{kind_of};
 ghost use Rattle.clap.specs.declared.error.kind.ErrorKind.TheVariants.{OutOfMemory};
-ghost use Rattle.cli.specs.Performing.{Answers, Exits, Performs, trouble_status};
+ghost use Rattle.cli.specs.Performing.{Answers, Exits, Performs, passed_on, trouble_status};
 ghost use Rattle.cli.specs.Requests.{IsInRange};
 
 mod arguments;
-mod commands;
 mod help;
 mod meter;
 mod numbers;
@@ -22,27 +21,42 @@ mod tasks;
 mod trouble;
 
 use clap::error::ErrorKind;
-use commands::{best, best_collection, check, dead, prove, prove_collection, replay, show, solve};
+use crew::Free;
 use help::Notes;
+use meter::Meter;
 use request::{Request, Task};
-use sokopar::{RunFault, Sink, Writer};
+use sokopar::{
+    RunFault, Sink, Writer, run_best, run_best_collection, run_check, run_dead, run_explain,
+    run_prove, run_prove_collection, run_replay, run_show, run_show_range, run_solve_with,
+};
 use std::alloc::Global;
 use std::env::Env;
 use std::process::ExitCode;
 use std::rt::Files;
 use std::sync::Wait;
 use std::thread::Threads;
+use std::time::Clock;
 use std::{env, io};
 use steady::Steady;
-use system::System;
+use system::{Solutions, System};
 use trouble::Trouble;
 
 /// The exit status of a fault of the command line.
 const USAGE: u8 = 2;
 
+/// The result of an engine as that of its task.
+fn passed_on<'a>(ran: Result<u8, RunFault>) -> Result<u8, Trouble<'a>>
+    ensures { result ≡ passed_on ran }
+{
+    match ran {
+        Ok(status) => Ok(status),
+        Err(fault) => Err(Trouble::Run(fault)),
+    }
+}
+
 /// Opens the files of a task before it reads the first, and runs its engine, which writes its report to the sink.
 /// Returns the exit status.
-fn perform<'a, R: Eprint + Threads + Wait + Sync, S: System, K: Sink>(
+fn perform<'a, R: Clock + Eprint + Threads + Wait + Sync, S: System, K: Sink>(
     rt: &R,
     system: &S,
     alloc: Global,
@@ -54,29 +68,42 @@ fn perform<'a, R: Eprint + Threads + Wait + Sync, S: System, K: Sink>(
     requires { IsInRange task }
     ensures { Performs S.opens S.refuses S.File.seen (K.seen sink.old) (K.seen sink.new) file.now task.entry result }
 {
+    let source = &mut system.open(file)?;
+    let meter = &mut Meter::new(rt, progress, task.limit());
     match task {
-        Task::Check => check(system, alloc, file, sink),
-        Task::Explain(number) => commands::explain(system, alloc, file, number, sink),
-        Task::Show(number) => show(system, alloc, file, number, sink),
-        Task::ShowRange { from, to } => commands::show_range(system, alloc, file, from, to, sink),
-        Task::Dead(number) => dead(system, alloc, file, number, sink),
-        Task::Replay { number, solution } => replay(system, alloc, file, number, solution, sink),
-        Task::Solve(search) => solve(rt, system, alloc, file, search, sink),
-        Task::Best(search) => best(rt, system, alloc, file, search, progress, sink),
+        Task::Check => passed_on(run_check(alloc, source, sink)),
+        Task::Explain(number) => passed_on(run_explain(alloc, source, number, sink)),
+        Task::Show(number) => passed_on(run_show(alloc, source, number, sink)),
+        Task::ShowRange { from, to } => passed_on(run_show_range(alloc, source, from, to, sink)),
+        Task::Dead(number) => passed_on(run_dead(alloc, source, number, sink)),
+        Task::Replay { number, solution } => {
+            let letters = &mut system.open(solution)?;
+            passed_on(run_replay(alloc, source, number, letters, sink))
+        }
+        Task::Solve(search) => passed_on(run_solve_with(rt, alloc, source, search, &Free, sink)),
+        Task::Best(search) => passed_on(run_best(rt, alloc, source, search, meter, sink)),
         Task::BestCollection(search) => {
-            best_collection(rt, system, alloc, file, search, progress, sink)
+            passed_on(run_best_collection(rt, alloc, source, search, meter, sink))
         }
         Task::Prove { search, solution } => {
-            prove(rt, system, alloc, file, solution, search, progress, sink)
+            let letters = &mut system.open(solution)?;
+            passed_on(run_prove(rt, alloc, source, letters, search, meter, sink))
         }
         Task::ProveCollection { search, folder } => {
-            prove_collection(rt, system, alloc, file, folder, search, progress, sink)
+            system.find_folder(folder)?;
+            let folder = Solutions {
+                system,
+                alloc,
+                folder,
+            };
+            let ran = run_prove_collection(rt, alloc, source, &folder, search, meter, sink);
+            passed_on(ran)
         }
     }
 }
 
 /// Performs a request, and prints why if there is no report. Returns the exit status.
-fn carry_out<'a, R: Eprint + Threads + Wait + Sync, S: System, K: Sink>(
+fn carry_out<'a, R: Clock + Eprint + Threads + Wait + Sync, S: System, K: Sink>(
     rt: &R,
     system: &S,
     alloc: Global,
@@ -127,7 +154,7 @@ fn complain<R: Eprint>(rt: &R, trouble: Trouble<'_>) -> u8
 }
 
 /// Runs the command line of these words, and writes a report to the sink. Returns the exit status.
-fn run<R: Print + Eprint + Threads + Wait + Sync, S: System, K: Sink>(
+fn run<R: Clock + Print + Eprint + Threads + Wait + Sync, S: System, K: Sink>(
     rt: &R,
     system: &S,
     alloc: Global,
@@ -169,7 +196,9 @@ fn without_help_flag(words: &[String]) -> &[String] {
 }
 
 /// Reads the words of the command line, and performs them. Returns the exit status.
-fn start<R: Env + Files + Print + Eprint + Threads + Wait + Sync + AllocGlobal>(rt: &R) -> u8 {
+fn start<R: Clock + Env + Files + Print + Eprint + Threads + Wait + Sync + AllocGlobal>(
+    rt: &R,
+) -> u8 {
     match words(rt) {
         Ok(words) => {
             let mut output = Writer::new(Steady::new(io::writer(rt)));

@@ -67,6 +67,19 @@ pub enum Task<'a> {
     },
 }
 
+impl<'a> Task<'a> {
+    /// The limit of positions of its searches with lines of progress; 0 without any.
+    pub(crate) fn limit(&self) -> u32 {
+        match self {
+            Task::Best(search) | Task::Prove { search, .. } => search.settings.limit,
+            Task::BestCollection(search) | Task::ProveCollection { search, .. } => {
+                search.settings.limit
+            }
+            _ => 0,
+        }
+    }
+}
+
 /// The request that the arguments of a subcommand make.
 #[tactic(auto, using(crate::proofs::Asking::no_task))]
 fn request_of<'a>(

@@ -19,6 +19,7 @@ const WITHOUT_SEARCH: Settings = Settings {
     cap: None,
     limit: MOST,
     moves: false,
+    seconds: None,
 };
 
 /// The task that the arguments of `solve` ask for.
@@ -94,16 +95,23 @@ fn show_task<'a>(matches: &ArgMatches<'a>) -> Result<Task<'a>, BadArgument<'a>>
 
 /// The number of workers of `best` and `prove`, and their settings without a cap.
 fn settings_of<'a>(matches: &ArgMatches<'a>) -> Result<(u8, Settings), BadArgument<'a>>
-    ensures ok { IfOk result (λ config. HasSettings (found_in matches.now) config.0 config.1.limit config.1.moves) }
+    ensures ok { IfOk result (λ config. HasSettings (found_in matches.now) config.0 config.1) }
     ensures err { OnErr result (
         (number_in (found_in matches.now) (codes "workers") MOST_WORKERS ≡ None) ⊎
-        (number_in (found_in matches.now) (codes "limit") MOST ≡ None)) }
+        (number_in (found_in matches.now) (codes "limit") MOST ≡ None) ⊎
+        (number_if_given (found_in matches.now) (codes "seconds") 1 MOST ≡ None)) }
 {
     let workers = number_of(matches, "workers", "--workers <W>", MOST_WORKERS)?;
     let limit = number_of(matches, "limit", "--limit <L>", MOST)?;
+    let seconds = number_if_given(matches, "seconds", "--seconds <T>", 1)?;
     let moves = has_flag(matches, "moves");
-    let cap = None;
-    Ok((workers as u8, Settings { cap, limit, moves }))
+    let settings = Settings {
+        cap: None,
+        limit,
+        moves,
+        seconds,
+    };
+    Ok((workers as u8, settings))
 }
 
 /// The number of workers of `best`, and its settings.
@@ -112,12 +120,12 @@ fn config_of<'a>(matches: &ArgMatches<'a>) -> Result<(u8, Settings), BadArgument
     ensures err { OnErr result (
         (number_in (found_in matches.now) (codes "workers") MOST_WORKERS ≡ None) ⊎
         (number_in (found_in matches.now) (codes "limit") MOST ≡ None) ⊎
+        (number_if_given (found_in matches.now) (codes "seconds") 1 MOST ≡ None) ⊎
         (number_if_given (found_in matches.now) (codes "max-pushes") 0 MOST ≡ None)) }
 {
     let (workers, settings) = settings_of(matches)?;
-    let Settings { limit, moves, .. } = settings;
     let cap = number_if_given(matches, "max-pushes", "--max-pushes <M>", 0)?;
-    Ok((workers, Settings { cap, limit, moves }))
+    Ok((workers, Settings { cap, ..settings }))
 }
 
 /// The task that the arguments of `best` ask for.

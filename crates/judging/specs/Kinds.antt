@@ -9,6 +9,7 @@ use Rattle.judging.specs.declared.judgement.Counts.{Counts}
 use Rattle.judging.specs.declared.judgement.Judgement.{Judgement}
 use Rattle.judging.specs.declared.judgement.Judgement.TheVariants as is
 use Rattle.judging.specs.declared.judgement.Known.{Known}
+use Rattle.judging.specs.declared.judgement.LimitKind.{LimitKind}
 use Rattle.judging.specs.declared.judgement.MovesClaim.{MovesClaim}
 use Rattle.judging.specs.declared.judgement.MovesClaim.TheVariants.{Counted, Fewest, Open}
 use Rattle.judging.specs.declared.judgement.Solution.{Solution}
@@ -41,7 +42,7 @@ abbrev pub claim_proved : MovesClaim → List ℕ
 claim_proved Fewest = codes "pushes and moves"
 claim_proved claim = codes "pushes"
 
-abbrev pub claim_limit : ℕ → MovesClaim → Option ℕ
+abbrev pub claim_limit : LimitKind → MovesClaim → Option LimitKind
 claim_limit limit Open = Some limit
 claim_limit limit claim = None
 
@@ -134,9 +135,9 @@ bound_of (is.OutOfMemory given bound) = bound
 bound_of judgement = None
 
 -- the limit, if a search ended at it
-abbrev pub limit_of : ℕ → Judgement → Option ℕ
-limit_of limit (is.Searched known) = cond (has_fewest known) (claim_limit limit known.claim) (Some limit)
-limit_of limit judgement = None
+abbrev pub limit_of : Judgement → Option LimitKind
+limit_of (is.Searched known) = cond (has_fewest known) (claim_limit known.limit known.claim) (Some known.limit)
+limit_of judgement = None
 
 -- ---- several
 

@@ -11,6 +11,8 @@ use Rattle.judging.specs.Words.{judgement_words, line}
 use Rattle.judging.specs.declared.judgement.Counts.{Counts}
 use Rattle.judging.specs.declared.judgement.Judgement.{Judgement}
 use Rattle.judging.specs.declared.judgement.Judgement.TheVariants as is
+use Rattle.judging.specs.declared.judgement.LimitKind.{LimitKind}
+use Rattle.judging.specs.declared.judgement.LimitKind.TheVariants.{Positions, Seconds}
 use Rattle.judging.specs.declared.judgement.Settings.{Settings}
 use Rattle.judging.specs.declared.judgement.Solution.{Solution}
 
@@ -36,6 +38,12 @@ number_cell (Some n) = codes "\t" ++ decimal n
 -- a tab and words
 abbrev pub word_cell : List ℕ → List ℕ
 word_cell words = codes "\t" ++ words
+
+-- the limit at which a search ended, if it did: of positions, or of seconds
+abbrev pub limit_cell : Settings → Option LimitKind → List ℕ
+limit_cell set None = number_cell None
+limit_cell set (Some Positions) = number_cell (Some set.limit)
+limit_cell set (Some Seconds) = number_cell set.seconds ++ codes " s"
 
 -- the numbers of pushes and moves of a solution, if there is one
 abbrev pub counts_cells : Option Counts → List ℕ
@@ -64,7 +72,7 @@ row set n listed judgement =
     line
     (decimal n ++ number_cell (Some listed.first_line) ++ number_cell (boxes_of listed.board) ++
     word_cell (kind_word (kind_of judgement)) ++ word_cell (proved_of judgement) ++ counts_cells (given_of judgement) ++
-    counts_cells (best_of judgement) ++ number_cell (bound_of judgement) ++ number_cell (limit_of set.limit judgement) ++
+    counts_cells (best_of judgement) ++ number_cell (bound_of judgement) ++ limit_cell set (limit_of judgement) ++
     name_cell listed.name ++ word_cell (letters_between [] [] (found_of judgement)))
 
 -- the line of level n: nothing if no solution is given, a row in a table, else its number and its words

@@ -1,5 +1,6 @@
 -- The words of reports on a level.
 use Rattle.std.specs.Prelude.{ℕ, ◌==◌, Bool, true, false, cond, List, [], ◌∷◌, ◌++◌, Option, Some, None, codes, decimal}
+use Rattle.std.specs.Prelude.{unwrap_or}
 use Rattle.grid.specs.declared.fault.LevelFault.{LevelFault}
 use Rattle.grid.specs.declared.fault.LevelFault.TheVariants as level
 use Rattle.lurd.specs.declared.fault.LurdFault.{LurdFault}
@@ -10,6 +11,8 @@ use Rattle.judging.specs.declared.judgement.Counts.{Counts}
 use Rattle.judging.specs.declared.judgement.Judgement.{Judgement}
 use Rattle.judging.specs.declared.judgement.Judgement.TheVariants as is
 use Rattle.judging.specs.declared.judgement.Known.{Known}
+use Rattle.judging.specs.declared.judgement.LimitKind.{LimitKind}
+use Rattle.judging.specs.declared.judgement.LimitKind.TheVariants.{Positions, Seconds}
 use Rattle.judging.specs.declared.judgement.MovesClaim.{MovesClaim}
 use Rattle.judging.specs.declared.judgement.MovesClaim.TheVariants.{Counted, Fewest, Open}
 use Rattle.judging.specs.declared.judgement.Settings.{Settings}
@@ -48,10 +51,14 @@ verdict_words (verdict.Unsolved pushes moves) = codes "unsolved " ++ counts_word
 verdict_words (verdict.Blocked at) = codes "blocked at " ++ decimal at
 verdict_words (verdict.WrongCase at) = codes "wrong case at " ++ decimal at
 
+-- the limit at which a search ended: of positions, or of seconds
+abbrev pub limit_words : Settings → LimitKind → List ℕ
+limit_words set Positions = codes "limit " ++ decimal set.limit ++ codes " reached"
+limit_words set Seconds = codes "limit " ++ decimal (unwrap_or set.seconds 0) ++ codes " seconds reached"
+
 -- a search that ended at its limit: every solution has at least `bound` pushes
-abbrev pub open_words : ℕ → ℕ → List ℕ
-open_words limit bound =
-    codes "limit " ++ decimal limit ++ codes " reached, at least " ++ decimal bound ++ codes " pushes"
+abbrev pub open_words : List ℕ → ℕ → List ℕ
+open_words limit bound = limit ++ (codes ", at least " ++ decimal bound ++ codes " pushes")
 
 -- no solution has as few pushes as the cap
 abbrev pub none_words : Option ℕ → List ℕ
@@ -59,27 +66,27 @@ none_words None = codes "none within  pushes"
 none_words (Some most) = codes "none within " ++ decimal most ++ codes " pushes"
 
 -- a solution with the fewest pushes; `found` if it has as many as the given one, and the moves are open
-abbrev pub optimal_words : ℕ → Bool → MovesClaim → Counts → List ℕ
+abbrev pub optimal_words : List ℕ → Bool → MovesClaim → Counts → List ℕ
 optimal_words limit as_many Counted s = codes "optimal " ++ counts_words s.pushes s.moves
 optimal_words limit as_many Fewest s =
     codes "optimal " ++ decimal s.pushes ++ codes " pushes, optimal " ++ decimal s.moves ++ codes " moves"
 optimal_words limit as_many Open s =
     codes "optimal " ++ decimal s.pushes ++ codes " pushes, " ++ cond as_many (codes "found ") (codes "") ++
-    decimal s.moves ++ codes " moves, limit " ++ decimal limit ++ codes " reached"
+    decimal s.moves ++ codes " moves, " ++ limit
 
 -- a solution that was found: with the fewest pushes, or with more than the bound
-abbrev pub found_words : ℕ → Bool → MovesClaim → ℕ → Counts → List ℕ
+abbrev pub found_words : List ℕ → Bool → MovesClaim → ℕ → Counts → List ℕ
 found_words limit as_many claim bound s =
     cond (s.pushes == bound) (optimal_words limit as_many claim s)
     (codes "found " ++ counts_words s.pushes s.moves ++ codes ", " ++ open_words limit bound)
 
 -- what is known, by the given solution and the one that was found
-abbrev pub known_words : ℕ → Known → Option Counts → Option Solution → List ℕ
+abbrev pub known_words : List ℕ → Known → Option Counts → Option Solution → List ℕ
 known_words limit known None None = open_words limit known.at_least
 known_words limit known None (Some s) = found_words limit false known.claim known.at_least s.counts
 known_words limit known (Some given) None =
     cond (given.pushes == known.at_least) (optimal_words limit false known.claim given)
-    (open_words limit known.at_least ++ codes ", given " ++ counts_words given.pushes given.moves)
+    (open_words limit known.at_least ++ (codes ", given " ++ counts_words given.pushes given.moves))
 known_words limit known (Some given) (Some s) =
     codes "not optimal " ++ counts_words given.pushes given.moves ++ codes ", " ++
     found_words limit (s.counts.pushes == given.pushes) known.claim known.at_least s.counts
@@ -94,7 +101,7 @@ starved_words given None = codes "out of memory"
 
 -- a judgement
 abbrev pub judgement_words : Settings → Judgement → List ℕ
-judgement_words set (is.Searched known) = known_words set.limit known known.given known.found
+judgement_words set (is.Searched known) = known_words (limit_words set known.limit) known known.given known.found
 judgement_words set is.NoneWithin = none_words set.cap
 judgement_words set is.Unsolvable = codes "unsolvable"
 judgement_words set (is.TooManyBoxes given) = codes "too many boxes"

@@ -8,12 +8,14 @@ use lurd::{LurdFault, Verdict};
 
 /// The settings of a search. With a cap it looks only for solutions with at most that many pushes. It ends undecided once
 /// it has found more positions than the limit. With `moves` a second search looks for the fewest moves among the
-/// solutions with the fewest pushes. Its limit is the same number, of positions with the exact square of the player.
+/// solutions with the fewest pushes. Its limit is the same number, of positions with the exact square of the player. Each
+/// of the two also ends undecided once it has run as many seconds as `seconds` says.
 #[derive(Clone, Copy, PartialEq, Eq, Debug)]
 pub struct Settings {
     pub cap: Option<u32>,
     pub limit: u32,
     pub moves: bool,
+    pub seconds: Option<u32>,
 }
 
 /// The numbers of pushes and moves of a solution.
@@ -41,6 +43,15 @@ pub enum MovesClaim {
     Open,
 }
 
+/// What a search that ended at its limit has reached.
+#[derive(Clone, Copy)]
+pub enum LimitKind {
+    /// The limit of positions.
+    Positions,
+    /// The limit of seconds.
+    Seconds,
+}
+
 /// What is known of the solutions of a level. The solution at hand is the one that was found, else the given one.
 #[derive(Drop)]
 pub struct Known {
@@ -52,6 +63,8 @@ pub struct Known {
     pub at_least: usize,
     /// What is known of the moves if the solution at hand has no more pushes than that.
     pub claim: MovesClaim,
+    /// The limit that the last search reached, if it ended at one.
+    pub limit: LimitKind,
 }
 
 /// What a report says of a level, and of its given solution if there is one.
@@ -104,11 +117,11 @@ impl MovesClaim {
     }
 
     /// The limit, if the search for the fewest moves ended at it.
-    fn limit(self, limit: u32) -> Option<usize>
+    fn limit(self, limit: LimitKind) -> Option<LimitKind>
         ensures { result ≡ claim_limit limit self }
     {
         match self {
-            MovesClaim::Open => Some(limit as usize),
+            MovesClaim::Open => Some(limit),
             MovesClaim::Counted | MovesClaim::Fewest => None,
         }
     }
@@ -215,12 +228,12 @@ impl Judgement {
     }
 
     /// The limit, if a search ended at it.
-    pub(crate) fn limit(&self, limit: u32) -> Option<usize>
-        ensures { result ≡ limit_of limit self.now }
+    pub(crate) fn limit(&self) -> Option<LimitKind>
+        ensures { result ≡ limit_of self.now }
     {
         match self {
-            Judgement::Searched(known) if known.has_fewest() => known.claim.limit(limit),
-            Judgement::Searched(_) => Some(limit as usize),
+            Judgement::Searched(known) if known.has_fewest() => known.claim.limit(known.limit),
+            Judgement::Searched(known) => Some(known.limit),
             _ => None,
         }
     }

@@ -11,7 +11,7 @@ mod totals;
 mod words;
 
 pub use faults::{FaultWords, TextFaultWords, VerdictWords};
-pub use judgement::{Counts, Judgement, Known, MovesClaim, Settings, Solution};
+pub use judgement::{Counts, Judgement, Known, LimitKind, MovesClaim, Settings, Solution};
 pub use kind::{Group, Kind};
 pub use lines::{head_of, put_judgement, put_letters_line, put_level_line};
 pub use text::{Number, Text};

@@ -2,11 +2,12 @@
 ghost use Rattle.std.specs.Prelude.{◌≡◌, ◌==◌, ◌++◌, [], Some, OnOk, Result, decimal, flat_map};
 ghost use Rattle.std.specs.List.{list_any};
 ghost use Rattle.judging.specs.Kinds.{found_of, kind_of, kind_word, proved_of};
-ghost use Rattle.judging.specs.Table.{boxes_of, cell_bytes, counts_cells, letters_between, name_cell, number_cell};
+ghost use Rattle.judging.specs.Table.{boxes_of, cell_bytes, counts_cells, letters_between, limit_cell, name_cell};
+ghost use Rattle.judging.specs.Table.{number_cell};
 ghost use Rattle.judging.specs.Table.{quote_of, row, word_cell};
 ghost use Rattle.judging.specs.inside.Entries.{entry_listed};
 
-use crate::judgement::{Counts, Judgement, Settings};
+use crate::judgement::{Counts, Judgement, LimitKind, Settings};
 use crate::lines::put_letters_between;
 use crate::text::Text;
 use grid::{Level, LevelFault};
@@ -65,6 +66,24 @@ fn put_counts(text: &mut Text, counts: Option<Counts>) -> Result<(), AllocError>
             put_number(text, Some(counts.moves))
         }
         None => text.put(b"\t\t"),
+    }
+}
+
+/// Appends the limit at which a search ended, if it did.
+fn put_limit(
+    text: &mut Text,
+    settings: Settings,
+    limit: Option<LimitKind>,
+) -> Result<(), AllocError>
+    ensures { OnOk result (text.new ≡ text.old ++ limit_cell settings limit) }
+{
+    match limit {
+        None => put_number(text, None),
+        Some(LimitKind::Positions) => put_number(text, Some(settings.limit as usize)),
+        Some(LimitKind::Seconds) => {
+            put_number(text, settings.seconds.map(|most| most as usize))?;
+            text.put(b" s")
+        }
     }
 }
 
@@ -136,7 +155,7 @@ pub(crate) fn put_row(
     put_counts(text, judgement.given())?;
     put_counts(text, judgement.best())?;
     put_number(text, judgement.bound())?;
-    put_number(text, judgement.limit(settings.limit))?;
+    put_limit(text, settings, judgement.limit())?;
     put_name(text, entry.name.as_slice())?;
     put_solution(text, judgement)?;
     text.put(b"\n")

@@ -1,23 +1,44 @@
 //! The words of judgements.
 ghost use Rattle.std.specs.Prelude.{Some};
-ghost use Rattle.judging.specs.Words.{found_words, judgement_words, known_words, none_words, open_words};
+ghost use Rattle.judging.specs.Words.{found_words, judgement_words, known_words, limit_words, none_words, open_words};
 
 use crate::faults::{FaultWords, TextFaultWords, VerdictWords};
-use crate::judgement::{Counts, Judgement, Known, MovesClaim, Settings};
+use crate::judgement::{Counts, Judgement, Known, LimitKind, MovesClaim, Settings};
 use crate::text::Number;
 use std::fmt;
 
-/// That a search ended at this limit; every solution has at least this many pushes.
+/// That a search ended at this limit of its settings.
 #[derive(Clone, Copy)]
-struct Undecided(u32, usize);
+struct Reached(Settings, LimitKind);
 
-impl fmt::Display for Undecided {
-    ghost output = { λ it. Some (open_words it.0 it.1) };
+impl fmt::Display for Reached {
+    ghost output = { λ it. Some (limit_words it.0 it.1) };
 
     fn fmt<W: fmt::Write>(&self, f: &mut fmt::Formatter<W>) -> fmt::Result {
-        let limit = Number(self.0 as usize);
+        match self.1 {
+            LimitKind::Positions => {
+                let most = Number(self.0.limit as usize);
+                write!(f, "limit {most} reached")
+            }
+            LimitKind::Seconds => {
+                let most = Number(self.0.seconds.unwrap_or(0) as usize);
+                write!(f, "limit {most} seconds reached")
+            }
+        }
+    }
+}
+
+/// That a search ended at this limit; every solution has at least this many pushes.
+#[derive(Clone, Copy)]
+struct Undecided(Reached, usize);
+
+impl fmt::Display for Undecided {
+    ghost output = { λ it. Some (open_words (limit_words it.0.0 it.0.1) it.1) };
+
+    fn fmt<W: fmt::Write>(&self, f: &mut fmt::Formatter<W>) -> fmt::Result {
+        let limit = self.0;
         let at_least = Number(self.1);
-        write!(f, "limit {limit} reached, at least {at_least} pushes")
+        write!(f, "{limit}, at least {at_least} pushes")
     }
 }
 
@@ -39,10 +60,10 @@ impl fmt::Display for NoneWithin {
 /// A solution with these numbers, under a limit, beside what is known. With the flag it has as many pushes as the given
 /// one.
 #[derive(Drop)]
-struct Found<'k>(u32, &'k Known, bool, Counts);
+struct Found<'k>(Reached, &'k Known, bool, Counts);
 
 impl fmt::Display for Found<'_> {
-    ghost output = { λ it. Some (found_words it.0 it.2 it.1.now.claim it.1.now.at_least it.3) };
+    ghost output = { λ it. Some (found_words (limit_words it.0.0 it.0.1) it.2 it.1.now.claim it.1.now.at_least it.3) };
 
     fn fmt<W: fmt::Write>(&self, f: &mut fmt::Formatter<W>) -> fmt::Result {
         let counts = self.3;
@@ -52,43 +73,41 @@ impl fmt::Display for Found<'_> {
         }
         let pushes = Number(counts.pushes);
         let moves = Number(counts.moves);
-        let limit = Number(self.0 as usize);
+        let limit = self.0;
         let how = if self.2 { "found " } else { "" };
         match self.1.claim {
             MovesClaim::Counted => write!(f, "optimal {counts}"),
             MovesClaim::Fewest => write!(f, "optimal {pushes} pushes, optimal {moves} moves"),
-            MovesClaim::Open => write!(
-                f,
-                "optimal {pushes} pushes, {how}{moves} moves, limit {limit} reached"
-            ),
+            MovesClaim::Open => write!(f, "optimal {pushes} pushes, {how}{moves} moves, {limit}"),
         }
     }
 }
 
-/// What is known, under a limit.
+/// What is known after a search with these settings.
 #[derive(Drop)]
-struct KnownWords<'k>(u32, &'k Known);
+struct KnownWords<'k>(Settings, &'k Known);
 
 impl fmt::Display for KnownWords<'_> {
-    ghost output = { λ it. Some (known_words it.0 it.1.now it.1.now.given it.1.now.found) };
+    ghost output = { λ it. Some (known_words (limit_words it.0 it.1.now.limit) it.1.now it.1.now.given it.1.now.found) };
 
     fn fmt<W: fmt::Write>(&self, f: &mut fmt::Formatter<W>) -> fmt::Result {
-        let KnownWords(limit, known) = self;
-        let open = Undecided(*limit, known.at_least);
+        let KnownWords(settings, known) = self;
+        let limit = Reached(*settings, known.limit);
+        let open = Undecided(limit, known.at_least);
         match (&known.given, &known.found) {
             (None, None) => write!(f, "{open}"),
-            (None, Some(found)) => write!(f, "{}", Found(*limit, known, false, found.counts)),
+            (None, Some(found)) => write!(f, "{}", Found(limit, known, false, found.counts)),
             (Some(given), None) => {
                 let given = *given;
                 if given.pushes != known.at_least {
                     return write!(f, "{open}, given {given}");
                 }
-                write!(f, "{}", Found(*limit, known, false, given))
+                write!(f, "{}", Found(limit, known, false, given))
             }
             (Some(given), Some(found)) => {
                 let given = *given;
                 let as_many = found.counts.pushes == given.pushes;
-                let found = Found(*limit, known, as_many, found.counts);
+                let found = Found(limit, known, as_many, found.counts);
                 write!(f, "not optimal {given}, {found}")
             }
         }
@@ -104,7 +123,7 @@ impl fmt::Display for JudgementWords<'_> {
 
     fn fmt<W: fmt::Write>(&self, f: &mut fmt::Formatter<W>) -> fmt::Result {
         match self.1 {
-            Judgement::Searched(known) => write!(f, "{}", KnownWords(self.0.limit, known)),
+            Judgement::Searched(known) => write!(f, "{}", KnownWords(self.0, known)),
             Judgement::NoneWithin => write!(f, "{}", NoneWithin(self.0.cap)),
             Judgement::Unsolvable => f.write_str("unsolvable"),
             Judgement::TooManyBoxes(_) => f.write_str("too many boxes"),

@@ -31,4 +31,6 @@ mod memory;
 #[cfg(test)]
 mod pages;
 #[cfg(test)]
+mod timed;
+#[cfg(test)]
 mod values;

@@ -231,9 +231,11 @@ fn page_of_prover(rt: HostRuntime) {
     let alloc = rt.alloc();
     let level = level_of(&rt, alloc, CORNER);
     let progress = &mut Unheard;
-    let best = prover::search(&rt, alloc, &level, None, 1_000, 1, progress).expect(&rt, "memory");
+    let best = prover::search(&rt, alloc, &level, None, 1_000, None, 1, progress);
+    let best = best.expect(&rt, "memory");
     assert!(&rt; matches!(&best, Outcome::Least { pushes: 2, .. }));
-    let none = prover::search(&rt, alloc, &level, Some(1), 100, 2, progress).expect(&rt, "memory");
+    let none = prover::search(&rt, alloc, &level, Some(1), 100, None, 2, progress);
+    let none = none.expect(&rt, "memory");
     assert!(&rt; matches!(&none, Outcome::NoneWithin));
 }
 

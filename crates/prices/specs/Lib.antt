@@ -3,4 +3,5 @@ pub mod Prices
 pub mod Helping
 pub mod Fewest
 pub mod Searching
+pub mod Timing
 pub mod inside

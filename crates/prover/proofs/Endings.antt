@@ -1,5 +1,6 @@
 -- What the end of a search says, over plain lists of what was found.
-use Rattle.std.proofs.Common.{◌≡◌, ℕ, ◌<◌, List, length, map, Option, None, Some, inl, inr, sym, subst, arith, max}
+use Rattle.std.proofs.Common.{◌≡◌, ℕ, ◌<◌, List, length, map, Option, None, Some, Result, Ok, Err}
+use Rattle.std.proofs.Common.{IfOk, inl, inr, refl, sym, subst, arith, max}
 use Rattle.std.proofs.lemmas.Bool.{cases_lt}
 use Rattle.std.proofs.lemmas.List.{length-map}
 use Rattle.std.specs.Prelude.{slice_get}
@@ -13,7 +14,12 @@ use Rattle.prices.specs.Fewest.{NoneHasFewer}
 use Rattle.prover.specs.Reachable.{IsReachable, HasMore}
 use Rattle.prover.specs.Frontier.{IsSearchUnderWay, AreFrom, NoneIsOpen}
 use Rattle.prover.specs.inside.Working.{IsLeastOpen, IsSearchOnBoard}
-use Rattle.prover.specs.inside.SearchEnds.{NoneIsAllowed, IsFloor, IsLeastSolved}
+use Rattle.prover.specs.Outcomes.{IsOutcome}
+use Rattle.prover.specs.inside.SearchEnds.{NoneIsAllowed, IsFloor, IsLeastSolved, Tells}
+use Rattle.prover.specs.declared.outcome.Outcome.{Outcome}
+use Rattle.prover.specs.declared.searching.SearchEnd.{SearchEnd}
+use Rattle.prover.specs.declared.searching.SearchEnd.TheVariants.{Closed, Solved, Limit, Stopped}
+use Rattle.prover.proofs.lemmas.Outcomes.{outcome_then}
 use Rattle.prover.proofs.Openings.{allows_fewer, least_bounds, closed_decides}
 
 none_has_fewer : (board : Board) (cap : Option ℕ) (all : List Node) (least : ℕ) → IsLevel board →
@@ -98,3 +104,21 @@ has_more board cap all limit under distinct many = record {
       let (ds, ps, t, play, norm, long) = (under.sound i x a).reached in
       subst (IsReachable board) same (ds, ps, t, play, norm));
 }
+
+-- an end before the limit says as much under a greater one
+pub tells_beyond : (board : Board) (cap : Option ℕ) (few limit : ℕ) (Late : Type 0) (all : List Node) (end : SearchEnd) →
+    ¬ (end ≡ Limit) → Tells board cap few Late all end → Tells board cap limit Late all end
+tells_beyond board cap few limit Late all Closed before told = told
+tells_beyond board cap few limit Late all (Solved place) before told = told
+tells_beyond board cap few limit Late all Limit before told = absurd (before refl)
+tells_beyond board cap few limit Late all Stopped before told = told
+
+-- the solution that is read back from a solved position
+pub outcome_solved : {E : Type 0} (board : Board) (cap : Option ℕ) (limit : ℕ) (Late : Type 0) (all : List Node)
+    (place : ℕ) (end : SearchEnd) (r : Result Outcome E) → end ≡ Solved place → Tells board cap limit Late all end →
+    IfOk r (λ o. (cap : Option ℕ) (limit : ℕ) → IsLeastSolved board cap all place → IsOutcome board cap limit ⊥ o) →
+    IfOk r (λ o. IsOutcome board cap limit Late o)
+outcome_solved board cap limit Late all place end (Ok o) is told found =
+    outcome_then board cap limit o (λ e. absurd e)
+    (found cap limit (subst (λ (x : SearchEnd). Tells board cap limit Late all x) is told))
+outcome_solved board cap limit Late all place end (Err e) is told found = tt

@@ -88,7 +88,7 @@ back_whole board all here x y late traced at is back = (
 pub solution_by : (board : Board) (cap : Option ℕ) (limit : ℕ) (all : List Node) (place : ℕ) (x : Node) (ps : List Push)
     (t : Scene) (moves : List Letter) (n : ℕ) → n ≡ x.pushes → slice_get all place ≡ Some x →
     AreLeading board ps x.position → length ps ≤ x.pushes → WritesLeastPlay board ps t moves →
-    IsLeastSolved board cap all place → IsOutcome board cap limit (Least moves n)
+    IsLeastSolved board cap all place → IsOutcome board cap limit ⊥ (Least moves n)
 solution_by board cap limit all place x ps t moves n count at (ds, s, play, norm) few writes least = (
   subst (λ (m : ℕ). IsVerdict board moves (Solved m (length moves))) (sym whole) (solved_of_play writes.play writes.written end),
   subst (NoneHasFewer board) fewest least.fewest,

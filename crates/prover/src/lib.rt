@@ -16,9 +16,11 @@
 //!
 //! ```text
 //! let progress = &mut Unheard;
-//! let best = prover::search(&rt, alloc, &level, None, 1_000, 1, progress).expect(&rt, "memory");
+//! let best = prover::search(&rt, alloc, &level, None, 1_000, None, 1, progress);
+//! let best = best.expect(&rt, "memory");
 //! assert!(&rt; matches!(&best, Outcome::Least { pushes: 2, .. }));
-//! let none = prover::search(&rt, alloc, &level, Some(1), 100, 2, progress).expect(&rt, "memory");
+//! let none = prover::search(&rt, alloc, &level, Some(1), 100, None, 2, progress);
+//! let none = none.expect(&rt, "memory");
 //! assert!(&rt; matches!(&none, Outcome::NoneWithin));
 //! ```
 #![tactic(auto)]
@@ -29,7 +31,6 @@ mod lane;
 pub mod laws;
 mod outcome;
 mod parity;
-mod progress;
 mod pruner;
 mod pushing;
 mod queue;
@@ -37,9 +38,9 @@ mod recording;
 mod retracing;
 mod rounds;
 mod searching;
+mod stages;
 mod workspace;
 
 pub use outcome::Outcome;
-pub use prices::SearchFault;
-pub use progress::{Progress, Unheard};
+pub use prices::{Progress, SearchFault, Unheard};
 pub use searching::search;

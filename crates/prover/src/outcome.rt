@@ -12,4 +12,7 @@ pub enum Outcome {
     /// The search found more positions than the limit; every solution has at least this many pushes, a number that the
     /// cap allows.
     Limit { at_least: u32 },
+    /// The search ran for as many seconds as it may; every solution has at least this many pushes, a number that the
+    /// cap allows.
+    Stopped { at_least: u32 },
 }

@@ -23,7 +23,7 @@ pub(crate) fn solution_at(
     requires traced { AreTraced level.now frontier.now.entries }
     requires place { place < length frontier.now.entries }
     ensures { IfOk result (λ outcome. (cap : Option ℕ) (limit : ℕ) →
-        IsLeastSolved level.now cap frontier.now.entries place → IsOutcome level.now cap limit outcome) }
+        IsLeastSolved level.now cap frontier.now.entries place → IsOutcome level.now cap limit ⊥ outcome) }
 {
     let leading = pushes_to(alloc, frontier, place)?;
     let mut scratch = Scratch::new(alloc, level)?;

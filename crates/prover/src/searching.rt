@@ -1,5 +1,5 @@
 //! The search: it expands the open position with the least total, until one is solved or none is open.
-ghost use Rattle.std.specs.Prelude.{◌≡◌, ◌↔◌, ◌≤◌, ℕ, List, Option, IfOk, IfErr, IsTrue};
+ghost use Rattle.std.specs.Prelude.{◌≡◌, ◌≢◌, ◌↔◌, ◌≤◌, IfOk, IfErr, IsTrue};
 ghost use Rattle.std.specs.Prelude.{[], OnOk};
 ghost use Rattle.grid.specs.Board.{Board, IsSolved, start};
 ghost use Rattle.grid.specs.Lawful.{box_count};
@@ -8,6 +8,7 @@ ghost use Rattle.area.specs.Area.{IsNorm};
 ghost use Rattle.store.specs.Visited.{Node};
 ghost use Rattle.successors.specs.Capping.{capped};
 ghost use Rattle.prices.specs.Searching.{IsFault};
+ghost use Rattle.prices.specs.Timing.{IsLate};
 ghost use Rattle.prover.specs.Outcomes.{IsOutcome};
 ghost use Rattle.prover.specs.inside.Rounds.{IsDesk};
 ghost use Rattle.prover.specs.inside.SearchEnds.{IsFloor, Tells, none_by};
@@ -16,31 +17,17 @@ ghost use Rattle.prover.specs.inside.Working.{HasSize, IsSearchOnBoard};
 use crate::expansion::expand;
 use crate::frontier::Frontier;
 use crate::outcome::Outcome;
-use crate::progress::Progress;
 use crate::pruner::Pruner;
 use crate::retracing::solution_at;
 use crate::rounds::{Desk, expand_more};
+use crate::stages::{STAGES, add_tables};
 use area::Scratch;
 use grid::{Level, MAX_BOXES, Position};
-use prices::SearchFault;
+use prices::{Progress, SearchFault, is_late};
 use std::alloc::{AllocError, Global};
 use std::sync::Arc;
 use std::thread::Threads;
 use successors::Problem;
-
-/// The numbers of positions at which the search makes tables of regions, each with the bytes that a table may take, and
-/// whether the regions are chosen for the open positions that hold the search up. Making the tables takes about as
-/// long as finding that many positions, and many searches end before.
-const STAGES: [(u32, usize, bool); 8] = [
-    (500, 128_000, false),
-    (1_500, 250_000, true),
-    (3_000, 1_000_000, true),
-    (6_000, 1_000_000, false),
-    (10_000, 1_000_000, true),
-    (30_000, 1_000_000, true),
-    (60_000, 10_000_000, false),
-    (200_000, 4_000_000, true),
-];
 
 /// How a search ends.
 #[derive(Clone, Copy)]
@@ -51,6 +38,8 @@ pub(crate) enum SearchEnd {
     Solved(usize),
     /// The search found more positions than the limit.
     Limit,
+    /// The search's time is up.
+    Stopped,
 }
 
 /// Searches for a solution with the fewest pushes, in at most `workers` threads (0 counts as 1, and more than 16 as
@@ -58,11 +47,12 @@ pub(crate) enum SearchEnd {
 /// in the caller's thread, and so is what a thread had no memory for.
 ///
 /// Before each round it tells `progress` how many pushes every solution has at least, as far as it knows, and how many
-/// positions it has found.
+/// positions it has found. With a number of seconds it also asks how long it has run; the first round does not end it,
+/// and a round that makes tables of regions may take some seconds.
 ///
 /// Only a search with a cap gives [`Outcome::NoneWithin`], and only one without a cap gives [`Outcome::Unsolvable`].
-/// [`Outcome::Limit`] means that the search found more positions than the limit. It is tested, not proved, that a
-/// greater limit gives no lesser `at_least`.
+/// [`Outcome::Limit`] means that the search found more positions than the limit, and [`Outcome::Stopped`] that it ran for
+/// as many seconds as it may. It is tested, not proved, that a greater limit gives no lesser `at_least`.
 ///
 /// Fails with [`SearchFault::TooManyBoxes`] if the level has more than [`MAX_BOXES`](grid::MAX_BOXES) boxes, and with
 /// [`SearchFault::OutOfMemory`] if it runs out of memory.
@@ -72,10 +62,11 @@ pub fn search<R: Threads + Sync, P: Progress>(
     level: &Level,
     cap: Option<u32>,
     limit: u32,
+    seconds: Option<u32>,
     workers: u8,
     progress: &mut P,
 ) -> Result<Outcome, SearchFault>
-    ensures outcome { IfOk result (λ outcome. IsOutcome level.now cap limit outcome) }
+    ensures outcome { IfOk result (λ outcome. IsOutcome level.now cap limit (IsLate seconds (P.told progress.new)) outcome) }
     ensures few { OnOk result (box_count level.now ≤ MAX_BOXES) }
     ensures fault { IfErr result (λ fault. IsFault level.now fault) }
 {
@@ -86,6 +77,7 @@ pub fn search<R: Threads + Sync, P: Progress>(
     let search = Settings {
         cap,
         limit,
+        seconds,
         workers,
     };
     match search_from(rt, alloc, level, &first, search, progress, &mut at_least) {
@@ -99,6 +91,7 @@ pub fn search<R: Threads + Sync, P: Progress>(
 struct Settings {
     cap: Option<u32>,
     limit: u32,
+    seconds: Option<u32>,
     workers: u8,
 }
 
@@ -115,7 +108,8 @@ fn search_from<R: Threads + Sync, P: Progress>(
     requires first { first.now ≡ start level.now }
     requires few { box_count level.now ≤ MAX_BOXES }
     requires floor { IsFloor level.now search.cap reach.old }
-    ensures outcome { IfOk result (λ outcome. IsOutcome level.now search.cap search.limit outcome) }
+    ensures outcome { IfOk result (λ outcome.
+        IsOutcome level.now search.cap search.limit (IsLate search.seconds (P.told progress.new)) outcome) }
     ensures floor { IsFloor level.now search.cap reach.new }
 {
     level.tell_start();
@@ -152,12 +146,19 @@ fn search_in<R: Threads + Sync, P: Progress>(
     requires size { HasSize level.now frontier.old }
     requires few { box_count level.now ≤ MAX_BOXES }
     requires floor { IsFloor level.now search.cap reach.old }
-    ensures outcome { IfOk result (λ outcome. IsOutcome level.now search.cap search.limit outcome) }
+    ensures outcome { IfOk result (λ outcome.
+        IsOutcome level.now search.cap search.limit (IsLate search.seconds (P.told progress.new)) outcome) }
     ensures floor { IsFloor level.now search.cap reach.new }
 {
     begin(level, normal, search.cap, frontier)?;
     let end = run_on(rt, alloc, level, search, progress, reach, frontier)?;
-    outcome_of(alloc, level, frontier, search, *reach, end)
+    let at_least = *reach;
+    match end {
+        SearchEnd::Closed => Ok(none_of(search.cap)),
+        SearchEnd::Limit => Ok(Outcome::Limit { at_least }),
+        SearchEnd::Stopped => Ok(Outcome::Stopped { at_least }),
+        SearchEnd::Solved(place) => solution_at(alloc, level, frontier, place),
+    }
 }
 
 // The normal form of a position.
@@ -186,7 +187,8 @@ fn begin(
     Ok(())
 }
 
-// Expands open positions until that decides the level, or the search has found more positions than the limit.
+// Expands open positions until that decides the level, or the search has found more positions than the limit, or its
+// time is up.
 fn run_on<R: Threads + Sync, P: Progress>(
     rt: &R,
     alloc: Global,
@@ -200,13 +202,19 @@ fn run_on<R: Threads + Sync, P: Progress>(
     requires few { box_count level.now ≤ MAX_BOXES }
     requires floor { IsFloor level.now search.cap reach.old }
     ensures searched { OnOk result (IsSearchOnBoard level.now search.cap frontier.new) }
-    ensures tells { IfOk result (λ end. Tells level.now search.cap search.limit frontier.new.entries end) }
+    ensures tells { IfOk result (λ end. Tells level.now search.cap search.limit
+        (IsLate search.seconds (P.told progress.new)) frontier.new.entries end) }
     ensures floor { IsFloor level.now search.cap reach.new }
 {
     let problem = problem_of(alloc, level, search.cap)?;
-    let Settings { limit, workers, .. } = search;
+    let Settings {
+        limit,
+        seconds,
+        workers,
+        ..
+    } = search;
     run_over(
-        rt, alloc, &problem, limit, workers, progress, reach, frontier,
+        rt, alloc, &problem, limit, seconds, workers, progress, reach, frontier,
     )
 }
 
@@ -218,12 +226,14 @@ fn problem_of(alloc: Global, level: &Level, cap: Option<u32>) -> Result<Problem,
     Problem::of(alloc, &shared, cap)
 }
 
-// Expands open positions of the problem until that decides it, or the search has found more than `limit` positions.
+// Expands open positions of the problem until that decides it, or the search has found more than `limit` positions, or
+// its time is up.
 fn run_over<R: Threads + Sync, P: Progress>(
     rt: &R,
     alloc: Global,
     problem: &Problem,
     limit: u32,
+    seconds: Option<u32>,
     workers: u8,
     progress: &mut P,
     reach: &mut u32,
@@ -233,7 +243,8 @@ fn run_over<R: Threads + Sync, P: Progress>(
     requires few { box_count problem.now.board ≤ MAX_BOXES }
     requires floor { IsFloor problem.now.board problem.now.cap reach.old }
     ensures searched { OnOk result (IsSearchOnBoard problem.now.board problem.now.cap frontier.new) }
-    ensures tells { IfOk result (λ end. Tells problem.now.board problem.now.cap limit frontier.new.entries end) }
+    ensures tells { IfOk result (λ end. Tells problem.now.board problem.now.cap limit
+        (IsLate seconds (P.told progress.new)) frontier.new.entries end) }
     ensures floor { IsFloor problem.now.board problem.now.cap reach.new }
 {
     let mut pruner = Pruner::of(alloc, problem)?;
@@ -242,6 +253,7 @@ fn run_over<R: Threads + Sync, P: Progress>(
         alloc,
         &mut pruner,
         limit,
+        seconds,
         workers,
         progress,
         reach,
@@ -249,13 +261,14 @@ fn run_over<R: Threads + Sync, P: Progress>(
     )
 }
 
-// Expands open positions until that decides the problem, or more than `limit` are found. Makes tables at the stages of
-// `STAGES`.
+// Expands open positions until that decides the problem, or more than `limit` are found, or the time is up. Makes tables
+// at the stages of `STAGES`.
 fn run_all<R: Threads + Sync, P: Progress>(
     rt: &R,
     alloc: Global,
     pruner: &mut Pruner<'_>,
     limit: u32,
+    seconds: Option<u32>,
     workers: u8,
     progress: &mut P,
     reach: &mut u32,
@@ -264,14 +277,17 @@ fn run_all<R: Threads + Sync, P: Progress>(
     requires searched { IsSearchOnBoard pruner.old.board pruner.old.cap frontier.old }
     requires floor { IsFloor pruner.old.board pruner.old.cap reach.old }
     ensures searched { OnOk result (IsSearchOnBoard pruner.old.board pruner.old.cap frontier.new) }
-    ensures tells { IfOk result (λ end. Tells pruner.old.board pruner.old.cap limit frontier.new.entries end) }
+    ensures tells { IfOk result (λ end. Tells pruner.old.board pruner.old.cap limit
+        (IsLate seconds (P.told progress.new)) frontier.new.entries end) }
     ensures floor { IsFloor pruner.old.board pruner.old.cap reach.new }
 {
     for (first, bytes, is_chosen_again) in STAGES {
         if first >= limit {
             break;
         }
-        let end = run(rt, alloc, pruner, first, workers, progress, reach, frontier)?;
+        let end = run(
+            rt, alloc, pruner, first, seconds, workers, progress, reach, frontier,
+        )?;
         let decided = is_decided(end);
         if decided {
             return Ok(end);
@@ -287,34 +303,14 @@ fn run_all<R: Threads + Sync, P: Progress>(
             workers,
         )?;
     }
-    run(rt, alloc, pruner, limit, workers, progress, reach, frontier)
-}
-
-// Makes tables of regions, or of regions that are chosen again for open positions with a least total of at most
-// `reach`.
-fn add_tables<R: Threads + Sync>(
-    rt: &R,
-    alloc: Global,
-    pruner: &mut Pruner<'_>,
-    frontier: &Frontier,
-    reach: u32,
-    bytes: usize,
-    is_chosen_again: bool,
-    workers: u8,
-) -> Result<(), AllocError>
-    ensures { pruner.new ≡ pruner.old }
-{
-    if !is_chosen_again {
-        return pruner.make_tables(rt, alloc, bytes, workers);
-    }
-    let samples = frontier.samples(alloc, reach)?;
-    pruner.make_tables_for(rt, alloc, bytes, samples.as_slice(), workers)
+    run(
+        rt, alloc, pruner, limit, seconds, workers, progress, reach, frontier,
+    )
 }
 
 // Whether a search ended before its limit.
 fn is_decided(end: SearchEnd) -> bool
-    ensures { IsTrue result → (board : Board) (cap : Option ℕ) (few limit : ℕ) (all : List Node) →
-        Tells board cap few all end → Tells board cap limit all end }
+    ensures { IsTrue result → end ≢ SearchEnd.Limit }
 {
     match end {
         SearchEnd::Limit => false,
@@ -322,13 +318,14 @@ fn is_decided(end: SearchEnd) -> bool
     }
 }
 
-// Expands open positions until that decides the problem, or more than `limit` are found. `reach` is the greatest of
-// the least totals that came up.
+// Expands open positions until that decides the problem, or more than `limit` are found, or the time is up. `reach` is
+// the greatest of the least totals that came up.
 fn run<R: Threads + Sync, P: Progress>(
     rt: &R,
     alloc: Global,
     pruner: &Pruner<'_>,
     limit: u32,
+    seconds: Option<u32>,
     workers: u8,
     progress: &mut P,
     reach: &mut u32,
@@ -337,12 +334,13 @@ fn run<R: Threads + Sync, P: Progress>(
     requires searched { IsSearchOnBoard pruner.now.board pruner.now.cap frontier.old }
     requires floor { IsFloor pruner.now.board pruner.now.cap reach.old }
     ensures searched { OnOk result (IsSearchOnBoard pruner.now.board pruner.now.cap frontier.new) }
-    ensures tells { IfOk result (λ end. Tells pruner.now.board pruner.now.cap limit frontier.new.entries end) }
+    ensures tells { IfOk result (λ end. Tells pruner.now.board pruner.now.cap limit
+        (IsLate seconds (P.told progress.new)) frontier.new.entries end) }
     ensures floor { IsFloor pruner.now.board pruner.now.cap reach.new }
 {
     let mut desk = Desk::new(alloc, pruner)?;
     let end = run_rounds(
-        rt, alloc, pruner, limit, workers, progress, reach, frontier, &mut desk,
+        rt, alloc, pruner, limit, seconds, workers, progress, reach, frontier, &mut desk,
     );
     drop(desk);
     end
@@ -354,6 +352,7 @@ fn run_rounds<'a, R: Threads + Sync, P: Progress>(
     alloc: Global,
     pruner: &Pruner<'a>,
     limit: u32,
+    seconds: Option<u32>,
     workers: u8,
     progress: &mut P,
     reach: &mut u32,
@@ -364,7 +363,8 @@ fn run_rounds<'a, R: Threads + Sync, P: Progress>(
     requires floor { IsFloor pruner.now.board pruner.now.cap reach.old }
     requires desk { IsDesk pruner.now frontier.old.entries desk.old }
     ensures searched { OnOk result (IsSearchOnBoard pruner.now.board pruner.now.cap frontier.new) }
-    ensures tells { IfOk result (λ end. Tells pruner.now.board pruner.now.cap limit frontier.new.entries end) }
+    ensures tells { IfOk result (λ end. Tells pruner.now.board pruner.now.cap limit
+        (IsLate seconds (P.told progress.new)) frontier.new.entries end) }
     ensures floor { IsFloor pruner.now.board pruner.now.cap reach.new }
 {
     pruner.level().tell();
@@ -379,6 +379,11 @@ fn run_rounds<'a, R: Threads + Sync, P: Progress>(
             frontier.tell();
             return Ok(SearchEnd::Limit);
         }
+        let late = is_late(seconds, progress);
+        // the start has no bound yet
+        if late && *reach > 0 {
+            return Ok(SearchEnd::Stopped);
+        }
         let first = frontier.expanded(place, *reach);
         expand(pruner, frontier, &first, &mut desk.workspace)?;
         expand_more(rt, alloc, pruner, frontier, *reach, limit, workers, desk)?;
@@ -391,27 +396,6 @@ pub(crate) fn is_solved(level: &Level, position: &Position) -> bool
     ensures { IsTrue result ↔ IsSolved level.now position.now }
 {
     level.are_on_goals(position.boxes())
-}
-
-// The outcome that the end of the search means.
-fn outcome_of(
-    alloc: Global,
-    level: &Level,
-    frontier: &Frontier,
-    search: Settings,
-    at_least: u32,
-    end: SearchEnd,
-) -> Result<Outcome, AllocError>
-    requires searched { IsSearchOnBoard level.now search.cap frontier.now }
-    requires tells { Tells level.now search.cap search.limit frontier.now.entries end }
-    requires floor { IsFloor level.now search.cap at_least }
-    ensures { IfOk result (λ outcome. IsOutcome level.now search.cap search.limit outcome) }
-{
-    match end {
-        SearchEnd::Closed => Ok(none_of(search.cap)),
-        SearchEnd::Limit => Ok(Outcome::Limit { at_least }),
-        SearchEnd::Solved(place) => solution_at(alloc, level, frontier, place),
-    }
 }
 
 // The outcome if no play that the cap allows ends solved.

@@ -5,11 +5,13 @@ ghost use Rattle.grid.specs.States.{FitsLevel};
 ghost use Rattle.shortest.specs.inside.Nearby.{IsFinderFor};
 
 use crate::aim::Aim;
-use crate::improving::{Finder, SQUARES_A_STATE, moves_by};
+use crate::improving::{Finder, SQUARES_A_STATE};
 use crate::listing::problem_of;
 use crate::near::{Find, Form, search_near};
+use crate::plays::moves_by;
 use crate::trail::Trail;
 use grid::{Level, MAX_BOXES, Moves, Position};
+use prices::Progress;
 use std::alloc::{AllocError, Global};
 use successors::Problem;
 
@@ -18,16 +20,18 @@ use successors::Problem;
 const BEAMS: [(usize, u32); 6] = [(200, 0), (200, 5), (200, 20), (600, 0), (600, 5), (600, 20)];
 
 /// Looks for a solution of a level, given that each has at least `at_least` pushes. A cap allows no more than that many.
-/// It ends once it has expanded `states` states, fewer on a large grid. The result
+/// It ends once it has expanded `states` states, fewer on a large grid, or has run as many seconds as it may. The result
 /// is a guess: replay it.
 ///
 /// Fails only if out of memory.
-pub fn first_solution(
+pub fn first_solution<P: Progress>(
     alloc: Global,
     level: &Level,
     at_least: u32,
     cap: Option<u32>,
     states: usize,
+    seconds: Option<u32>,
+    progress: &mut P,
 ) -> Result<Option<Moves>, AllocError> {
     let states = states / (1 + level.squares() / SQUARES_A_STATE);
     if states < at_least as usize {
@@ -38,13 +42,15 @@ pub fn first_solution(
     };
     level.tell_start();
     let problem = problem_of(alloc, level)?;
-    let found = search_over(alloc, level, &problem, start, at_least, cap, states);
+    let found = search_over(
+        alloc, level, &problem, start, at_least, cap, states, seconds, progress,
+    );
     drop(problem);
     found
 }
 
 // Looks for a solution from the start of the problem's level.
-fn search_over(
+fn search_over<P: Progress>(
     alloc: Global,
     level: &Level,
     problem: &Problem,
@@ -52,25 +58,38 @@ fn search_over(
     at_least: u32,
     cap: Option<u32>,
     states: usize,
+    seconds: Option<u32>,
+    progress: &mut P,
 ) -> Result<Option<Moves>, AllocError>
     requires problem { problem.now.board ≡ level.now }
     requires fits { FitsLevel level.now start }
     requires few { box_count level.now ≤ MAX_BOXES }
 {
     let mut finder = Finder::of(alloc, level, problem, start)?;
-    let found = search_with(alloc, level, at_least, cap, states, &mut finder);
+    let found = search_with(
+        alloc,
+        level,
+        at_least,
+        cap,
+        states,
+        seconds,
+        &mut finder,
+        progress,
+    );
     drop(finder);
     found
 }
 
 // Looks for a solution with one beam after the other, and with tables as a search of so many states makes them.
-fn search_with(
+fn search_with<P: Progress>(
     alloc: Global,
     level: &Level,
     at_least: u32,
     cap: Option<u32>,
     states: usize,
+    seconds: Option<u32>,
     finder: &mut Finder<'_>,
+    progress: &mut P,
 ) -> Result<Option<Moves>, AllocError>
     requires finder { IsFinderFor level.now finder.old }
 {
@@ -79,7 +98,7 @@ fn search_with(
     let mut left = states;
     for (width, percent) in BEAMS {
         let most = most_of(at_least, percent, cap);
-        let find = search_once(alloc, level, most, width, left, finder)?;
+        let find = search_once(alloc, level, most, width, left, seconds, finder, progress)?;
         left = left.saturating_sub(find.expanded);
         if let Some(pushes) = &find.pushes {
             return Ok(Some(moves_by(alloc, level, pushes.as_slice())?));
@@ -90,13 +109,15 @@ fn search_with(
 
 // Searches with one beam for a solution with at most this many pushes, in a beam so narrow that the states last to the
 // end.
-fn search_once(
+fn search_once<P: Progress>(
     alloc: Global,
     level: &Level,
     most: u32,
     width: usize,
     states: usize,
+    seconds: Option<u32>,
     finder: &mut Finder<'_>,
+    progress: &mut P,
 ) -> Result<Find, AllocError>
     requires finder { IsFinderFor level.now finder.old }
     ensures finder { IsFinderFor level.now finder.new }
@@ -110,6 +131,7 @@ fn search_once(
         displaced: 0,
         width: width.min(states / (most as usize).max(1)),
         states,
+        seconds,
     };
     search_near(
         alloc,
@@ -118,6 +140,7 @@ fn search_once(
         &Trail::new(alloc),
         form,
         &mut finder.memory,
+        progress,
     )
 }
 

@@ -1,7 +1,7 @@
 //! Replaces a solution by better ones that a search near it finds.
-ghost use Rattle.std.specs.Prelude.{◌≡◌, ◌<◌, ◌≤◌, ◌⊎◌, IfOk, IsTrue, OnOk, length};
+ghost use Rattle.std.specs.Prelude.{◌≡◌, ◌<◌, ◌≤◌, ◌⊎◌, IfOk, IsTrue};
 ghost use Rattle.grid.specs.Lawful.{box_count};
-ghost use Rattle.grid.specs.States.{FitsLevel, IsScene};
+ghost use Rattle.grid.specs.States.{FitsLevel};
 ghost use Rattle.shortest.specs.Improving.{IsNoWorse};
 ghost use Rattle.shortest.specs.inside.Nearby.{IsFinderFor};
 
@@ -9,11 +9,12 @@ use crate::aim::Aim;
 use crate::bounds::Bounds;
 use crate::listing::problem_of;
 use crate::near::{Find, Form, Memory, search_near};
+use crate::plays::moves_by;
 use crate::trail::Trail;
-use area::{Scratch, walk};
-use grid::{Letter, Level, MAX_BOXES, Moves, Position, Push, State};
+use grid::{Level, MAX_BOXES, Moves, Position, Push};
 use lurd::laws::one_verdict;
 use lurd::{Verdict, replay};
+use prices::Progress;
 use std::alloc::{AllocError, Global};
 use successors::Problem;
 
@@ -45,17 +46,20 @@ pub(crate) const SQUARES_A_STATE: usize = 1_000;
 
 /// Replaces a solution of the level by a better one, if it finds one: with fewer pushes, or with as many pushes and
 /// fewer moves. It searches states that differ from those of the solution in one box and, for fewer pushes, in two. It
-/// ends once it has expanded `states` of them without success, fewer on a large grid, or 40 times as many in all.
-/// Moves that do not solve the level stay as they are.
+/// ends once it has expanded `states` of them without success, fewer on a large grid, or 40 times as many in all, or has
+/// run as many seconds as it may. It tells `progress` of each better solution. Moves that do not solve the level stay as
+/// they are.
 ///
 /// Fails only if out of memory. Then the moves are the best solution that it found.
 #[tactic(auto, using(crate::proofs::Better::no_worse_same, crate::proofs::Better::no_worse_then))]
-pub fn improve(
+pub fn improve<P: Progress>(
     alloc: Global,
     level: &Level,
     moves: &mut Moves,
     aim: Aim,
     states: usize,
+    seconds: Option<u32>,
+    progress: &mut P,
 ) -> Result<(), AllocError>
     ensures { IsNoWorse level.now moves.old moves.new }
 {
@@ -65,13 +69,15 @@ pub fn improve(
     level.tell_start();
     let problem = problem_of(alloc, level)?;
     let states = states / (1 + level.squares() / SQUARES_A_STATE);
-    let end = improve_over(alloc, level, &problem, start, moves, aim, states);
+    let end = improve_over(
+        alloc, level, &problem, start, moves, aim, states, seconds, progress,
+    );
     drop(problem);
     end
 }
 
 // Improves a solution from the start of the problem's level.
-fn improve_over(
+fn improve_over<P: Progress>(
     alloc: Global,
     level: &Level,
     problem: &Problem,
@@ -79,6 +85,8 @@ fn improve_over(
     moves: &mut Moves,
     aim: Aim,
     states: usize,
+    seconds: Option<u32>,
+    progress: &mut P,
 ) -> Result<(), AllocError>
     requires problem { problem.now.board ≡ level.now }
     requires fits { FitsLevel level.now start }
@@ -86,27 +94,38 @@ fn improve_over(
     ensures { IsNoWorse level.now moves.old moves.new }
 {
     let mut finder = Finder::of(alloc, level, problem, start)?;
-    let end = improve_with(alloc, level, moves, aim, states, &mut finder);
+    let end = improve_with(
+        alloc,
+        level,
+        moves,
+        aim,
+        states,
+        seconds,
+        &mut finder,
+        progress,
+    );
     drop(finder);
     end
 }
 
 // Improves a solution for an aim.
 #[tactic(auto, using(crate::proofs::Better::no_worse_same, crate::proofs::Better::no_worse_then))]
-fn improve_with(
+fn improve_with<P: Progress>(
     alloc: Global,
     level: &Level,
     moves: &mut Moves,
     aim: Aim,
     states: usize,
+    seconds: Option<u32>,
     finder: &mut Finder<'_>,
+    progress: &mut P,
 ) -> Result<(), AllocError>
     requires { IsFinderFor level.now finder.old }
     ensures { IsNoWorse level.now moves.old moves.new }
 {
     match aim {
-        Aim::FewerPushes => save_pushes(alloc, level, moves, states, finder),
-        Aim::FewerMoves => save_moves(alloc, level, moves, states, finder),
+        Aim::FewerPushes => save_pushes(alloc, level, moves, states, seconds, finder, progress),
+        Aim::FewerMoves => save_moves(alloc, level, moves, states, seconds, finder, progress),
     }
 }
 
@@ -143,25 +162,27 @@ impl<'a> Finder<'a> {
 
 // Saves pushes of a solution with one box elsewhere, then with two, and then moves, again until the pushes stay.
 #[tactic(auto, using(crate::proofs::Better::no_worse_same, crate::proofs::Better::no_worse_then))]
-fn save_pushes(
+fn save_pushes<P: Progress>(
     alloc: Global,
     level: &Level,
     moves: &mut Moves,
     states: usize,
+    seconds: Option<u32>,
     finder: &mut Finder<'_>,
+    progress: &mut P,
 ) -> Result<(), AllocError>
     requires finder { IsFinderFor level.now finder.old }
     ensures better { IsNoWorse level.now moves.old moves.new }
     ensures finder { IsFinderFor level.now finder.new }
 {
-    let one = form_of(Aim::FewerPushes, 1, states);
-    let two = form_of(Aim::FewerPushes, 2, states);
+    let one = form_of(Aim::FewerPushes, 1, states, seconds);
+    let two = form_of(Aim::FewerPushes, 2, states, seconds);
     let mut left = states.saturating_mul(PUSHES_TIMES);
     for _ in 0..MAX_TURNS {
         let before = push_count(moves);
-        repeat(alloc, level, moves, one, &mut left, finder)?;
-        repeat(alloc, level, moves, two, &mut left, finder)?;
-        save_moves(alloc, level, moves, states, finder)?;
+        repeat(alloc, level, moves, one, &mut left, finder, progress)?;
+        repeat(alloc, level, moves, two, &mut left, finder, progress)?;
+        save_moves(alloc, level, moves, states, seconds, finder, progress)?;
         if push_count(moves) == before {
             break;
         }
@@ -170,24 +191,26 @@ fn save_pushes(
 }
 
 // Saves moves of a solution, with one box elsewhere: two bring next to nothing.
-fn save_moves(
+fn save_moves<P: Progress>(
     alloc: Global,
     level: &Level,
     moves: &mut Moves,
     states: usize,
+    seconds: Option<u32>,
     finder: &mut Finder<'_>,
+    progress: &mut P,
 ) -> Result<(), AllocError>
     requires finder { IsFinderFor level.now finder.old }
     ensures better { IsNoWorse level.now moves.old moves.new }
     ensures finder { IsFinderFor level.now finder.new }
 {
-    let form = form_of(Aim::FewerMoves, 1, states);
+    let form = form_of(Aim::FewerMoves, 1, states, seconds);
     let mut left = states.saturating_mul(MOVES_TIMES);
-    repeat(alloc, level, moves, form, &mut left, finder)
+    repeat(alloc, level, moves, form, &mut left, finder, progress)
 }
 
 // The form of a first search.
-fn form_of(aim: Aim, displaced: u32, states: usize) -> Form {
+fn form_of(aim: Aim, displaced: u32, states: usize, seconds: Option<u32>) -> Form {
     let width = match aim {
         Aim::FewerPushes => PUSHES_WIDTH,
         Aim::FewerMoves => MOVES_WIDTH,
@@ -197,19 +220,21 @@ fn form_of(aim: Aim, displaced: u32, states: usize) -> Form {
         displaced,
         width,
         states,
+        seconds,
     }
 }
 
 // Searches near the solution, and again near each better one, until a search without success leaves nothing out, or
-// the states since the last success or those that are left in all are used up.
+// the states since the last success or those that are left in all are used up, or the time is up.
 #[tactic(auto, using(crate::proofs::Better::no_worse_same, crate::proofs::Better::no_worse_then))]
-fn repeat(
+fn repeat<P: Progress>(
     alloc: Global,
     level: &Level,
     moves: &mut Moves,
     first: Form,
     left: &mut usize,
     finder: &mut Finder<'_>,
+    progress: &mut P,
 ) -> Result<(), AllocError>
     requires finder { IsFinderFor level.now finder.old }
     ensures better { IsNoWorse level.now moves.old moves.new }
@@ -224,8 +249,8 @@ fn repeat(
         if form.states == 0 {
             break;
         }
-        let find = search_once(alloc, level, moves, form, finder)?;
-        let is_better = take_if_some(alloc, level, moves, &find.pushes)?;
+        let find = search_once(alloc, level, moves, form, finder, progress)?;
+        let is_better = take_if_some(alloc, level, moves, &find.pushes, progress)?;
         *left = left.saturating_sub(find.expanded);
         form.states = form.states.saturating_sub(find.expanded);
         if is_better {
@@ -240,12 +265,13 @@ fn repeat(
 }
 
 // Searches once near a solution.
-fn search_once(
+fn search_once<P: Progress>(
     alloc: Global,
     level: &Level,
     moves: &Moves,
     form: Form,
     finder: &mut Finder<'_>,
+    progress: &mut P,
 ) -> Result<Find, AllocError>
     requires finder { IsFinderFor level.now finder.old }
     ensures finder { IsFinderFor level.now finder.new }
@@ -264,6 +290,7 @@ fn search_once(
         &trail,
         form,
         &mut finder.memory,
+        progress,
     )
 }
 
@@ -280,11 +307,12 @@ fn push_count(moves: &Moves) -> usize {
 
 // Takes the play with these pushes in place of the moves, if it is better. Returns whether it is.
 #[tactic(auto, using(crate::proofs::Better::no_worse_same, crate::proofs::Better::no_worse_then))]
-fn take_if_some(
+fn take_if_some<P: Progress>(
     alloc: Global,
     level: &Level,
     moves: &mut Moves,
     pushes: &Option<Vec<Push>>,
+    progress: &mut P,
 ) -> Result<bool, AllocError>
     ensures { IsNoWorse level.now moves.old moves.new }
 {
@@ -292,70 +320,18 @@ fn take_if_some(
         return Ok(false);
     };
     let candidate = moves_by(alloc, level, pushes.as_slice())?;
-    take_if_better(alloc, level, moves, candidate)
-}
-
-/// The moves of the play that makes these pushes, each after a shortest walk, if they are possible.
-pub(crate) fn moves_by(alloc: Global, level: &Level, pushes: &[Push]) -> Result<Moves, AllocError> {
-    let mut scratch = Scratch::new(alloc, level)?;
-    let moves = moves_in(alloc, level, pushes, &mut scratch);
-    drop(scratch);
-    moves
-}
-
-// The same, with memory for walks.
-fn moves_in(
-    alloc: Global,
-    level: &Level,
-    pushes: &[Push],
-    scratch: &mut Scratch,
-) -> Result<Moves, AllocError>
-    requires { scratch.old.size ≡ length level.now.cells }
-{
-    let mut state = State::start(alloc, level)?;
-    let mut moves = Moves::new(alloc);
-    for push in pushes {
-        if push.square.0 as usize >= level.squares() {
-            break;
-        }
-        append_push(level, *push, &mut state, scratch, &mut moves)?;
-    }
-    Ok(moves)
-}
-
-// Appends the moves of a push, and of a shortest walk to it.
-fn append_push(
-    level: &Level,
-    push: Push,
-    state: &mut State,
-    scratch: &mut Scratch,
-    moves: &mut Moves,
-) -> Result<(), AllocError>
-    requires inside { push.square < length level.now.cells }
-    requires scene { IsScene level.now state.old }
-    requires room { scratch.old.size ≡ length level.now.cells }
-    ensures scene { OnOk result (IsScene level.now state.new) }
-    ensures room { OnOk result (scratch.new.size ≡ length level.now.cells) }
-{
-    let Push { square, dir } = push;
-    let begin = moves.len();
-    let behind = level.next(square, dir.opposite());
-    let _ = walk(level, state, behind, scratch, moves)?;
-    moves.push(Letter { dir, push: true })?;
-    for index in begin..moves.len() {
-        state.step(level, moves.as_slice()[index].dir);
-    }
-    Ok(())
+    take_if_better(alloc, level, moves, candidate, progress)
 }
 
 // Takes a candidate in place of the moves, if both solve the level and the candidate has fewer pushes, or as many
 // pushes and fewer moves. Returns whether it did.
 #[tactic(auto, using(crate::proofs::Better::no_worse_same, crate::proofs::Better::no_worse_by))]
-fn take_if_better(
+fn take_if_better<P: Progress>(
     alloc: Global,
     level: &Level,
     moves: &mut Moves,
     candidate: Moves,
+    progress: &mut P,
 ) -> Result<bool, AllocError>
     ensures { IsNoWorse level.now moves.old moves.new }
 {
@@ -380,6 +356,7 @@ fn take_if_better(
         return Ok(false);
     }
     *moves = candidate;
+    progress.better(new_pushes, new_moves);
     Ok(true)
 }
 

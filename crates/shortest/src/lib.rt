@@ -21,6 +21,7 @@ mod improving;
 mod listing;
 mod near;
 mod outcome;
+mod plays;
 mod ranks;
 mod reading;
 mod rests;

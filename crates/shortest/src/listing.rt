@@ -4,6 +4,7 @@ ghost use Rattle.grid.specs.Board.{start};
 ghost use Rattle.grid.specs.Lawful.{box_count};
 ghost use Rattle.grid.specs.States.{FitsLevel};
 ghost use Rattle.area.specs.Pushes.{CanPush};
+ghost use Rattle.prices.specs.Timing.{IsLate};
 ghost use Rattle.store.specs.FoundView.{FitsGrid};
 ghost use Rattle.store.specs.Visited.{Node};
 ghost use Rattle.successors.specs.Capping.{capped};
@@ -14,11 +15,22 @@ ghost use Rattle.shortest.specs.inside.Listing.{EndsListing, IsAfter, IsEntryAt,
 use crate::bounds::Bounds;
 use crate::states::{Reached, reached_at};
 use grid::{Level, MAX_BOXES, Position, Push};
-use prices::{Matching, Slack};
+use prices::{Matching, Progress, Slack, is_late};
 use std::alloc::{AllocError, Global};
 use std::sync::Arc;
 use store::{Label, Visited};
 use successors::{Expander, Problem};
+
+/// How a listing ends.
+#[derive(Clone, Copy)]
+pub(crate) enum ListEnd {
+    /// All states are listed.
+    Whole,
+    /// There are more than the limit.
+    Limit,
+    /// The time is up.
+    Stopped,
+}
 
 /// Memory to expand states: for their pushes, and for the matchings of a state and of one after it.
 #[derive(Drop)]
@@ -53,23 +65,26 @@ pub(crate) fn begin(level: &Level, first: &Position, listed: &mut Visited) -> Re
     Ok(())
 }
 
-/// Lists the states that plays with at most `most` pushes may reach. Returns whether these are at most `limit`. If they
-/// are more, it stops early. Fails only if out of memory.
-pub(crate) fn list_states(
+/// Lists the states that plays with at most `most` pushes may reach. It stops once these are more than `limit`, or it has
+/// run as many seconds as it may. Fails only if out of memory.
+pub(crate) fn list_states<P: Progress>(
     alloc: Global,
     level: &Level,
     most: u32,
     limit: u32,
+    seconds: Option<u32>,
     listed: &mut Visited,
-) -> Result<bool, AllocError>
+    progress: &mut P,
+) -> Result<ListEnd, AllocError>
     requires listing { IsStateList level.now most 0 listed.old }
     requires few { box_count level.now ≤ MAX_BOXES }
-    ensures { IfOk result (λ whole. EndsListing level.now most limit listed.new whole) }
+    ensures { IfOk result (λ end. EndsListing level.now most limit
+        (IsLate seconds (P.told progress.new)) listed.new end) }
 {
     let problem = problem_of(alloc, level)?;
-    let whole = list_over(alloc, &problem, most, limit, listed);
+    let end = list_over(alloc, &problem, most, limit, seconds, listed, progress);
     drop(problem);
-    whole
+    end
 }
 
 /// The problem of a level, with no cap: the bounds prune in its place. Fails only if out of memory.
@@ -81,47 +96,65 @@ pub(crate) fn problem_of(alloc: Global, level: &Level) -> Result<Problem, AllocE
 }
 
 // Lists the states of a problem.
-fn list_over(
+fn list_over<P: Progress>(
     alloc: Global,
     problem: &Problem,
     most: u32,
     limit: u32,
+    seconds: Option<u32>,
     listed: &mut Visited,
-) -> Result<bool, AllocError>
+    progress: &mut P,
+) -> Result<ListEnd, AllocError>
     requires listing { IsStateList problem.now.board most 0 listed.old }
     requires few { box_count problem.now.board ≤ MAX_BOXES }
-    ensures { IfOk result (λ whole. EndsListing problem.now.board most limit listed.new whole) }
+    ensures { IfOk result (λ end. EndsListing problem.now.board most limit
+        (IsLate seconds (P.told progress.new)) listed.new end) }
 {
     let mut bounds = Bounds::of(alloc, problem.level(), most)?;
     let mut workspace = Workspace::new(alloc, problem)?;
-    let whole = list_all(alloc, &mut bounds, limit, listed, &mut workspace);
+    let end = list_all(
+        alloc,
+        &mut bounds,
+        limit,
+        seconds,
+        listed,
+        &mut workspace,
+        progress,
+    );
     drop(workspace);
     drop(bounds);
-    whole
+    end
 }
 
 // Expands the states in order. Makes tables of larger regions the more states are listed.
-fn list_all(
+fn list_all<P: Progress>(
     alloc: Global,
     bounds: &mut Bounds<'_>,
     limit: u32,
+    seconds: Option<u32>,
     listed: &mut Visited,
     workspace: &mut Workspace<'_>,
-) -> Result<bool, AllocError>
+    progress: &mut P,
+) -> Result<ListEnd, AllocError>
     requires board { workspace.old.expander.problem.board ≡ bounds.old.board }
     requires listing { IsStateList bounds.old.board bounds.old.cap 0 listed.old }
-    ensures { IfOk result (λ whole. EndsListing bounds.old.board bounds.old.cap limit listed.new whole) }
+    ensures { IfOk result (λ end. EndsListing bounds.old.board bounds.old.cap limit
+        (IsLate seconds (P.told progress.new)) listed.new end) }
 {
     let mut place = 0;
     while place < listed.len() {
         if listed.len() > limit as usize {
-            return Ok(false);
+            return Ok(ListEnd::Limit);
+        }
+        let late = is_late(seconds, progress);
+        if late {
+            return Ok(ListEnd::Stopped);
         }
         bounds.make_tables_at(alloc, listed.len())?;
         expand(bounds, listed, place, workspace)?;
         place += 1;
     }
-    Ok(true)
+    Ok(ListEnd::Whole)
 }
 
 // Lists the states that the pushes of the state at a place lead to.

@@ -20,7 +20,7 @@ use crate::states::{Reached, reached_at};
 use crate::trail::{Trail, Vicinity};
 use area::Walks;
 use grid::{Level, MAX_BOXES, Position, Push};
-use prices::Slack;
+use prices::{Progress, Slack, is_late};
 use std::alloc::{AllocError, Global};
 use store::{Label, Parent, Visited};
 use successors::Problem;
@@ -35,6 +35,8 @@ pub(crate) struct Form {
     pub(crate) width: usize,
     /// The most states that are expanded.
     pub(crate) states: usize,
+    /// The most seconds that the search and those before it may take.
+    pub(crate) seconds: Option<u32>,
 }
 
 /// How a search ended: with the pushes of a solution, or without; the number of expanded states; and whether the
@@ -81,13 +83,14 @@ pub(crate) struct Front<'a> {
 
 /// Searches for a solution with at most as many pushes as the bounds say, near that of the trail if it is not empty.
 /// Fails only if out of memory.
-pub(crate) fn search_near(
+pub(crate) fn search_near<P: Progress>(
     alloc: Global,
     bounds: &Bounds<'_>,
     start: &Position,
     trail: &Trail,
     form: Form,
     memory: &mut Memory<'_>,
+    progress: &mut P,
 ) -> Result<Find, AllocError>
     requires fits { FitsLevel bounds.now.board start.now }
     requires few { box_count bounds.now.board ≤ MAX_BOXES }
@@ -96,13 +99,15 @@ pub(crate) fn search_near(
 {
     let level = bounds.level();
     let mut kept = Visited::of(alloc, level.boxes(), level.squares());
-    let find = find_in(alloc, bounds, start, trail, form, &mut kept, memory);
+    let find = find_in(
+        alloc, bounds, start, trail, form, &mut kept, memory, progress,
+    );
     drop(kept);
     find
 }
 
 // Searches with an empty list of states.
-fn find_in(
+fn find_in<P: Progress>(
     alloc: Global,
     bounds: &Bounds<'_>,
     start: &Position,
@@ -110,6 +115,7 @@ fn find_in(
     form: Form,
     kept: &mut Visited,
     memory: &mut Memory<'_>,
+    progress: &mut P,
 ) -> Result<Find, AllocError>
     requires fits { FitsLevel bounds.now.board start.now }
     requires few { box_count bounds.now.board ≤ MAX_BOXES }
@@ -127,7 +133,7 @@ fn find_in(
         begin: 0,
         is_cut: false,
     };
-    let end = list_layers(alloc, bounds, &mut front, kept, memory);
+    let end = list_layers(alloc, bounds, &mut front, kept, memory, progress);
     let is_cut = front.is_cut;
     drop(front);
     let pushes = match end? {
@@ -143,12 +149,13 @@ fn find_in(
 
 // Lists layer by layer, until a state is solved or the form allows no more. Returns whether the last state that it kept
 // is solved.
-fn list_layers(
+fn list_layers<P: Progress>(
     alloc: Global,
     bounds: &Bounds<'_>,
     front: &mut Front<'_>,
     kept: &mut Visited,
     memory: &mut Memory<'_>,
+    progress: &mut P,
 ) -> Result<bool, AllocError>
     requires few { box_count bounds.now.board ≤ MAX_BOXES }
     requires ready { IsMemoryFor bounds.now.board memory.old }
@@ -158,7 +165,7 @@ fn list_layers(
     for pushes in 1..=bounds.cap() {
         front.pushes = pushes;
         front.left = bounds.cap() - pushes;
-        let is_solved = list_layer(alloc, bounds, front, kept, memory)?;
+        let is_solved = list_layer(alloc, bounds, front, kept, memory, progress)?;
         if is_solved || kept.len() == front.begin {
             return Ok(is_solved);
         }
@@ -167,12 +174,13 @@ fn list_layers(
 }
 
 // Lists a layer, and keeps the best of its states. Returns whether the last of them is solved.
-fn list_layer(
+fn list_layer<P: Progress>(
     alloc: Global,
     bounds: &Bounds<'_>,
     front: &mut Front<'_>,
     kept: &mut Visited,
     memory: &mut Memory<'_>,
+    progress: &mut P,
 ) -> Result<bool, AllocError>
     requires few { box_count bounds.now.board ≤ MAX_BOXES }
     requires ready { IsMemoryFor bounds.now.board memory.old }
@@ -183,19 +191,20 @@ fn list_layer(
     let level = bounds.level();
     let mut listed = Visited::of(alloc, level.boxes(), level.squares());
     front.vicinity.go_to(front.trail, front.pushes as usize);
-    let end = expand_all(bounds, front, kept, &mut listed, memory);
+    let end = expand_all(bounds, front, kept, &mut listed, memory, progress);
     let is_solved = end.and(keep_best(alloc, bounds, front, &listed, kept, memory));
     drop(listed);
     is_solved
 }
 
-// Lists the states after those that were kept last.
-fn expand_all(
+// Lists the states after those that were kept last, until the time is up.
+fn expand_all<P: Progress>(
     bounds: &Bounds<'_>,
     front: &Front<'_>,
     kept: &Visited,
     listed: &mut Visited,
     memory: &mut Memory<'_>,
+    progress: &mut P,
 ) -> Result<(), AllocError>
     requires ready { IsMemoryFor bounds.now.board memory.old }
     requires before { IsListFor bounds.now.board kept.now }
@@ -203,6 +212,9 @@ fn expand_all(
     ensures ready { IsMemoryFor bounds.now.board memory.new }
 {
     for place in front.begin..kept.len() {
+        if is_late(front.form.seconds, progress) {
+            break;
+        }
         let from = reached_at(kept, place);
         if from.state.fits(bounds.level()) {
             expand(bounds, front, &from, place, kept, listed, memory)?;

@@ -7,4 +7,6 @@ pub enum MovesOutcome {
     Least { moves: Moves },
     /// The search listed more states than the limit.
     Limit,
+    /// The search ran for as many seconds as it may.
+    Stopped,
 }

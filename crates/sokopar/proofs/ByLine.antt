@@ -1,6 +1,6 @@
 -- A collection, as its levels are judged and written one by one.
 use Rattle.std.proofs.Common.{◌≡◌, ℕ, suc, ◌+◌, ◌<◌, ◌≤◌, Option, List, [], ◌∷◌, ◌++◌, length, Some, None, Result, Ok, Err}
-use Rattle.std.proofs.Common.{IfErr, IfOk, inl, inr, refl, sym, ap, ◌∙◌, subst, arith, length-append}
+use Rattle.std.proofs.Common.{IfErr, IfOk, refl, sym, ap, ◌∙◌, subst, arith, length-append}
 use mathlib.Core.List.{map-append}
 use Rattle.xsb.specs.declared.entry.BoardEntry.{BoardEntry}
 use Rattle.xsb.specs.declared.limits.TheConstants.{MAX_FILE}
@@ -14,16 +14,16 @@ use Rattle.judging.specs.Table.{head_of, level_line}
 use Rattle.judging.specs.declared.judgement.Judgement.{Judgement}
 use Rattle.judging.specs.declared.kind.Kind.{Kind}
 use Rattle.sokopar.specs.Entries.{listed_of}
-use Rattle.sokopar.specs.Levels.{AreReported, none, outside, inside, BeginsListing, BeginsReport, IsBetween, IsLine, IsReport}
+use Rattle.sokopar.specs.Levels.{AreReported, none, outside, inside, BeginsListing, IsBetween, IsLine, IsReport}
 use Rattle.sokopar.specs.Levels.{EndsWith, beyond, within, Reported, kinds_of, last_line, last_status, lines_of}
 use Rattle.sokopar.specs.Listing.{Listed}
 use Rattle.sokopar.specs.Report.{Report, no_level}
-use Rattle.sokopar.specs.Runs.{ReadsWhole, RunsByLine, Stops, WritesLines, WritesPart, WritesWhole}
+use Rattle.sokopar.specs.Runs.{WritesByLine, WritesLines, WritesPart, WritesWhole}
 use Rattle.sokopar.specs.Runs as runs
 use Rattle.sokopar.specs.declared.fault.RunFault.{RunFault}
 use Rattle.sokopar.specs.declared.fault.RunFault.TheVariants.{Write, OutOfMemory}
 use Rattle.sokopar.specs.declared.proving.LevelsRequest.{LevelsRequest}
-use Rattle.sokopar.specs.inside.Sending.{Sends, SendsByLine, SendsLevels, StopsByLine}
+use Rattle.sokopar.specs.inside.Sending.{Begins, Sends, SendsLevels}
 use Rattle.xsb.proofs.lemmas.Cutting.{rest_of}
 use Rattle.sokopar.proofs.Listings.{HasListed, Next, listed-all, listed-more, next_given}
 
@@ -133,27 +133,30 @@ reported_inside {IsRight} {request} {bytes} {first} {number} {kinds} {old} {mid}
 -- the lines so far begin a report
 begins-report : (IsRight : ℕ → Listed → Reported → Type 0) (request : LevelsRequest) (bytes : List ℕ) (left : Collection) (listing : List Listed)
     (reported : List Reported) → HasListed bytes left listing → AreReported IsRight request.from request.to listing reported →
-    BeginsReport IsRight request bytes (head_of request.table ∷ lines_of reported)
-begins-report IsRight request bytes left listing reported so_far right = (listing, begins-of bytes left listing so_far, reported, right, refl)
+    Begins IsRight request bytes (head_of request.table ∷ lines_of reported) None
+begins-report IsRight request bytes left listing reported so_far right = (refl, (listing, begins-of bytes left listing so_far, reported, right, refl))
 
 -- the first line was not written whole
 pub stopped_first : {A : Type 0} (IsRight : ℕ → Listed → Reported → Type 0) (request : LevelsRequest) (bytes : List ℕ) (left : Collection) (text : List ℕ)
     (old new : Seen) (result : Result A RunFault) (fault : RunFault) → result ≡ Err fault → HasRead bytes left [] → text ≡ head_of request.table →
-    (fault ≡ Write) × WritesPart old new text → IfErr result (StopsByLine (BeginsReport IsRight request bytes) old new)
+    (fault ≡ Write) × WritesPart old new text → IfErr result (λ f. WritesByLine (Begins IsRight request bytes) old new (Err f))
 stopped_first IsRight request bytes left text old new result fault fails read same (write, part) =
-    subst (λ r. IfErr r (StopsByLine (BeginsReport IsRight request bytes) old new)) (sym (fails ∙ ap Err write)) (
+    subst (λ r. IfErr r (λ f. WritesByLine (Begins IsRight request bytes) old new (Err f))) (sym (fails ∙ ap Err write)) (
       [],
       head_of request.table,
+      None,
       begins-report IsRight request bytes left [] [] (record { founds = []; read = read; each = tt }) none,
-      record { between = old; whole = runs.none; part = subst (λ (l : List ℕ). WritesPart old new l) same part },
+      old,
+      runs.none,
+      subst (λ (l : List ℕ). WritesPart old new l) same part,
     )
 
 -- memory was refused between two lines
 pub stopped_between : {A : Type 0} (IsRight : ℕ → Listed → Reported → Type 0) (request : LevelsRequest) (bytes : List ℕ) (left : Collection)
     (number : ℕ) (kinds : List Kind) (old new : Seen) (result : Result A RunFault) → result ≡ Err OutOfMemory →
-    HasReported IsRight request bytes left number kinds old new → IfErr result (StopsByLine (BeginsReport IsRight request bytes) old new)
+    HasReported IsRight request bytes left number kinds old new → IfErr result (λ f. WritesByLine (Begins IsRight request bytes) old new (Err f))
 stopped_between IsRight request bytes left number kinds old new result fails is =
-    subst (λ r. IfErr r (StopsByLine (BeginsReport IsRight request bytes) old new)) (sym fails)
+    subst (λ r. IfErr r (λ f. WritesByLine (Begins IsRight request bytes) old new (Err f))) (sym fails)
     (head_of request.table ∷ lines_of is.reported, begins-report IsRight request bytes left is.listing is.reported is.so_far is.right, is.written)
 
 -- the line of a level was not written whole
@@ -161,19 +164,22 @@ pub stopped_within : {A : Type 0} {IsRight : ℕ → Listed → Reported → Typ
     {kinds : List Kind} {old mid : Seen} (last : Collection) (read : Option BoardEntry) (entry : BoardEntry) (one : Reported) (sent : List ℕ)
     (new : Seen) (result : Result A RunFault) (fault : RunFault) → result ≡ Err fault → HasReported IsRight request bytes first number kinds old mid →
     Next first last read → read ≡ Some entry → IsBetween request.from request.to (number + 1) → IsRight (number + 1) (listed_of entry) one →
-    sent ≡ one.text → (fault ≡ Write) × WritesPart mid new sent → IfErr result (StopsByLine (BeginsReport IsRight request bytes) old new)
+    sent ≡ one.text → (fault ≡ Write) × WritesPart mid new sent → IfErr result (λ f. WritesByLine (Begins IsRight request bytes) old new (Err f))
 stopped_within {IsRight = IsRight} {request = request} {bytes = bytes} {number = number} {old = old} {mid = mid} last read entry one sent new result
     fault fails is gives some in_range right same (write, part) =
     let counted_are = is.counted_are in
     let so_far = listed-more last entry is.so_far (next_given last read (Some entry) is.so_far gives some) in
     let begun = right-more IsRight request.from request.to (number + 1) is.listing is.reported (listed_of entry) one is.right
     (omega (arith, counted_are)) in_range right in
-    subst (λ r. IfErr r (StopsByLine (BeginsReport IsRight request bytes) old new)) (sym (fails ∙ ap Err write)) (
+    subst (λ r. IfErr r (λ f. WritesByLine (Begins IsRight request bytes) old new (Err f))) (sym (fails ∙ ap Err write)) (
       head_of request.table ∷ lines_of is.reported,
       one.text,
-      subst (λ (ls : List (List ℕ)). BeginsReport IsRight request bytes (head_of request.table ∷ ls)) (lines-last is.reported one)
+      None,
+      subst (λ (ls : List (List ℕ)). Begins IsRight request bytes (head_of request.table ∷ ls) None) (lines-last is.reported one)
           (begins-report IsRight request bytes last (is.listing ++ listed_of entry ∷ []) (is.reported ++ one ∷ []) so_far begun),
-      record { between = mid; whole = is.written; part = subst (λ (l : List ℕ). WritesPart mid new l) same part },
+      mid,
+      is.written,
+      subst (λ (l : List ℕ). WritesPart mid new l) same part,
     )
 
 -- no board more: the lines of all levels are written
@@ -206,47 +212,43 @@ ends_within from count last text worst status many is counts =
     subst (λ (t : List ℕ). EndsWith from count last worst t status) (sym is)
     (subst (λ (s : ℕ). EndsWith from count last worst last s) (sym counts) (within many))
 
--- the last line ends the report, or is not written whole
-sent-end : (IsRight : ℕ → Listed → Reported → Type 0) (folder : Option (List ℕ)) (request : LevelsRequest) (bytes : List ℕ) (count : ℕ)
-    (kinds : List Kind) (old mid new : Seen) (end : Report) (result : Result ℕ RunFault) (is : SendsLevels IsRight request bytes count kinds old mid) →
-    EndsWith request.from (length is.listing) (last_line folder request (kinds_of is.reported)) (last_status folder (kinds_of is.reported)) end.text end.status →
-    Sends end mid new result → SendsByLine (IsReport IsRight folder request bytes) (BeginsReport IsRight request bytes) old new result
-sent-end IsRight folder request bytes count kinds old mid new end (Ok status) is ends sends = (
-  (head_of request.table ∷ lines_of is.reported) ++ end.text ∷ [],
-  subst (λ (s : ℕ). IsReport IsRight folder request bytes ((head_of request.table ∷ lines_of is.reported) ++ end.text ∷ []) s) (sym sends.1)
-      (is.listing, is.lists, is.reported, is.right, end.text, ends, refl),
-  runs.more new end.text is.written sends.0,
-)
-sent-end IsRight folder request bytes count kinds old mid new end (Err Write) is ends sends = (
-  head_of request.table ∷ lines_of is.reported,
-  end.text,
-  inr (end.status, (is.listing, is.lists, is.reported, is.right, end.text, ends, refl)),
-  record { between = mid; whole = is.written; part = sends },
-)
-sent-end IsRight folder request bytes count kinds old mid new end (Err fault) is ends sends = absurd sends
+-- writing stopped before the last line
+pub stopped_levels : (IsRight : ℕ → Listed → Reported → Type 0) (folder : Option (List ℕ)) (request : LevelsRequest) (bytes : List ℕ) (old new : Seen)
+    (fault : RunFault) → WritesByLine (Begins IsRight request bytes) old new (Err fault) → WritesByLine (IsReport IsRight folder request bytes) old new (Err fault)
+stopped_levels IsRight folder request bytes old new Write (lines, next, status, (is, begins), between, each, part) =
+    (lines, next, None, begins, between, each, part)
+stopped_levels IsRight folder request bytes old new OutOfMemory (lines, (is, begins), each) = (lines, begins, each)
+stopped_levels IsRight folder request bytes old new fault bad = absurd bad
 
--- it is by the number of levels and by the kinds
+-- the last line ends the report, or is not written whole, by the number of levels and by the kinds
 pub sent_end : (IsRight : ℕ → Listed → Reported → Type 0) (folder : Option (List ℕ)) (request : LevelsRequest) (bytes : List ℕ) (count : ℕ)
     (kinds listed : List Kind) (old mid new : Seen) (end : Report) (result : Result ℕ RunFault) → SendsLevels IsRight request bytes count kinds old mid →
     listed ≡ kinds → EndsWith request.from count (last_line folder request listed) (last_status folder listed) end.text end.status →
-    Sends end mid new result → SendsByLine (IsReport IsRight folder request bytes) (BeginsReport IsRight request bytes) old new result
-sent_end IsRight folder request bytes count kinds listed old mid new end result is same ends sends =
-    let P : ℕ → List Kind → Type 0 = λ n ks. EndsWith request.from n (last_line folder request ks) (last_status folder ks) end.text end.status in
-    sent-end IsRight folder request bytes count kinds old mid new end result is
-    (subst (P (length is.listing)) (same ∙ is.kinds_are) (subst (λ n. P n listed) is.count_is ends)) sends
+    Sends end.text end.status mid new result → WritesByLine (IsReport IsRight folder request bytes) old new result
+sent_end IsRight folder request bytes count kinds listed old mid new end result is same ends sends = by result sends
+  where
+    P : ℕ → List Kind → Type 0
+    P = λ n ks. EndsWith request.from n (last_line folder request ks) (last_status folder ks) end.text end.status
 
--- what was written is the report of what was read
-pub runs_by_line : (IsReport : List ℕ → List (List ℕ) → ℕ → Type 0) (Begins : List ℕ → List (List ℕ) → Type 0) (source read sink written : Seen)
-    (bytes : List ℕ) (result : Result ℕ RunFault) → ReadsWhole source read bytes → SendsByLine (IsReport bytes) (Begins bytes) sink written result →
-    RunsByLine IsReport Begins source read sink written result
-runs_by_line IsReport Begins source read sink written bytes (Ok status) whole sends = (bytes, sends.0, whole, sends.1, sends.2)
-runs_by_line IsReport Begins source read sink written bytes (Err Write) whole sends = (bytes, sends.0, sends.1, whole, sends.2, sends.3)
-runs_by_line IsReport Begins source read sink written bytes (Err OutOfMemory) whole sends = inr (bytes, sends.0, whole, sends.1, sends.2)
-runs_by_line IsReport Begins source read sink written bytes (Err fault) whole sends = absurd sends
+    whole : IsReport IsRight folder request bytes ((head_of request.table ∷ lines_of is.reported) ++ end.text ∷ []) (Some end.status)
+    whole = (
+      is.listing,
+      is.lists,
+      is.reported,
+      is.right,
+      end.text,
+      subst (P (length is.listing)) (same ∙ is.kinds_are) (subst (λ n. P n listed) is.count_is ends),
+      refl,
+    )
 
--- the reading stopped, and nothing was written
-pub stopped_reading : (IsReport : List ℕ → List (List ℕ) → ℕ → Type 0) (Begins : List ℕ → List (List ℕ) → Type 0) (source read sink : Seen) (fault : RunFault) →
-    Stops source read fault → RunsByLine IsReport Begins source read sink sink (Err fault)
-stopped_reading IsReport Begins source read sink Write stops = absurd stops.cause
-stopped_reading IsReport Begins source read sink OutOfMemory stops = inl (stops, refl)
-stopped_reading IsReport Begins source read sink fault stops = (stops, refl)
+    lines : List (List ℕ)
+    lines = head_of request.table ∷ lines_of is.reported
+
+    by : (result : Result ℕ RunFault) → Sends end.text end.status mid new result → WritesByLine (IsReport IsRight folder request bytes) old new result
+    by (Ok status) sends = (
+      lines ++ end.text ∷ [],
+      subst (λ (s : ℕ). IsReport IsRight folder request bytes (lines ++ end.text ∷ []) (Some s)) (sym sends.1) whole,
+      runs.more new end.text is.written sends.0,
+    )
+    by (Err Write) sends = (lines, end.text, Some end.status, whole, mid, is.written, sends)
+    by (Err fault) sends = absurd sends

@@ -11,9 +11,8 @@ use Rattle.grid.specs.Lawful.{IsOpen}
 use Rattle.grid.specs.Squares.{Squares}
 use Rattle.grid.specs.inside.Filling.{IsFilling, IsLook, work}
 use Rattle.grid.specs.inside.Filling.IsLook.{passes, takes}
-use Rattle.grid.proofs.lemmas.Filling.{IsLooking, all_seen, fill_closed, first_in_room, first_inside, looked, unseen}
+use Rattle.grid.proofs.lemmas.Filling.{IsLooking, all_seen, fill_closed, first_inside, looked}
 use Rattle.grid.proofs.lemmas.Steps.{next_bound}
-use Rattle.sokopar.specs.Explaining.{IsExit}
 use Rattle.sokopar.specs.inside.Explaining.{HasTurned}
 
 -- a look at a square, in the pending squares from some place on
@@ -35,15 +34,6 @@ pub record IsTurning (board : Board) (from square seen : ℕ) (marks : List Bool
   pub looking : IsLooking board new (drop from later) square seen
   pub less : work new (drop from later) ≤ work marks (drop from pending)
 
--- before the first look
-pub turning_first : (board : Board) (from square : ℕ) (marks : List Bool) (pending : Squares) → from ≤ length pending →
-    IsFilling board marks (square ∷ drop from pending) → IsTurning board from square 0 marks pending marks pending
-turning_first board from square marks pending long filling = record {
-  long = long;
-  looking = unseen board marks (drop from pending) square filling;
-  less = omega arith;
-}
-
 module _ (board : Board) (from square seen : ℕ) (d : Dir) (marks old : List Bool) (pending before : Squares)
     (turning : IsTurning board from square seen marks pending old before) where
   -- the square beside it is in the grid, or the grid ends there
@@ -54,9 +44,6 @@ module _ (board : Board) (from square seen : ℕ) (d : Dir) (marks old : List Bo
         | inl less ↦ less
         | inr past ↦ absurd (inside (omega (arith, past, bound, beside)))
       ]
-
-  pub beside_exit : (n : ℕ) → n ≡ next board square d → n ≡ length board.cells → IsExit board square
-  beside_exit n beside ends = (first_in_room board old square (drop from before) turning.looking.filling, (d, sym beside ∙ ends))
 
   -- after one look more
   pub turning_more : (n more : ℕ) (new : List Bool) (later : Squares) → dir_number d ≡ seen → n ≡ next board square d → more ≡ seen + 1 →

@@ -5,8 +5,7 @@ use Rattle.std.proofs.Common.{arith}
 use Rattle.std.proofs.lemmas.Bool.{false≢true}
 use Rattle.grid.specs.Board.{Board}
 use Rattle.grid.specs.declared.fault.LevelFault.{LevelFault}
-use Rattle.grid.specs.Lawful.{IsLevel, cell_fault, row_count}
-use Rattle.grid.specs.declared.limits.TheConstants.{MAX_ROWS}
+use Rattle.grid.specs.Lawful.{IsLevel, cell_fault}
 use Rattle.xsb.specs.Collection.{Found, IsJudged}
 use Rattle.xsb.specs.Entries.{IsBoardEntry}
 use Rattle.xsb.specs.declared.entry.BoardEntry.{BoardEntry}
@@ -31,7 +30,7 @@ use Rattle.sokopar.specs.Report.{Report, check_line}
 use Rattle.sokopar.specs.declared.explain.Broken.{Broken}
 use Rattle.sokopar.specs.declared.explain.Page.{Page}
 use Rattle.sokopar.specs.declared.remark.Remark.{Remark}
-use Rattle.sokopar.specs.inside.Explaining.{AddsFaults, AreBounded, HaveBroken, IsWayOut, board_in, foreign_line}
+use Rattle.sokopar.specs.inside.Explaining.{AddsFaults, HaveBroken, IsWayOut, board_in, foreign_line}
 use Rattle.sokopar.specs.inside.Pages.{IsPage, IsSourceOf, Tells}
 use Rattle.sokopar.specs.inside.Parts.{is_good}
 use Rattle.sokopar.proofs.Behind.{lawful_faults, quiet_is, quiet_undrawn}
@@ -191,26 +190,6 @@ module _ (wanted : Option ℕ) (n : ℕ) (listed : Listed) (board : Board) (plac
   tells-drawn (Ok a) judged shown same picture = tells-text picture.0
       (λ _. subst (λ (j : Result Board LevelFault). IsPicture j board.cells picture.0) same picture.1)
       (picture.2 ∙ ap (λ (b : Bool). three ++ cond b (drawn board picture.0) []) (sym shown))
-
--- the rows of a source, and how their board is judged
-pub rows-of : (source : BoardSource) (rows : BoardRows) (found : Found) → IsSourceOf source found → source.rows ≡ Ok rows →
-    (lines : List (List ℕ)) × (first : ℕ) × AreRowsOf lines first found.board rows
-rows-of source rows found is e =
-    let has = is.1 in (has.0, has.1, subst (λ (r : Result BoardRows Excess). HasRowsFor has.0 has.1 found.board r) e has.2)
-
-pub bounds-of : (source : BoardSource) (rows : BoardRows) (found : Found) → IsSourceOf source found → source.rows ≡ Ok rows → AreBounded rows
-bounds-of source rows found is e =
-    let has = rows-of source rows found is e in record {
-      columns = has.2.columns;
-      wide = has.2.wide;
-      tall = subst (λ (b : Board). row_count b ≤ MAX_ROWS) has.2.board_is has.2.tall;
-      bound = has.2.bound;
-    }
-
-pub judged-of : (source : BoardSource) (rows : BoardRows) (found : Found) → IsSourceOf source found → source.rows ≡ Ok rows →
-    IsJudged (board_in rows) source.entry.board
-judged-of source rows found is e =
-    let has = rows-of source rows found is e in subst (λ (b : Board). IsJudged b source.entry.board) has.2.board_is is.0
 
 -- what is found is told, if memory lasts
 pub found-told : {A E : Type 0} (result : Result A E) (remark : Remark) (IsOn Tale : Remark → Type 0) → IsOn remark →

@@ -1,5 +1,5 @@
 -- What searches know of a level, and that judgements are right.
-use Rattle.std.proofs.Common.{◌≡◌, ℕ, suc, ◌<◌, ◌≤◌, ◌⊎◌, Bool, true, false, List, [], ◌∷◌, length, Option, Some, None, Result, Ok, Err, IfOk, IfSome, MatchOption, inl, inr, refl, sym, subst, ◌∙◌, arith}
+use Rattle.std.proofs.Common.{◌≡◌, ℕ, ◌<◌, ◌≤◌, ◌⊎◌, Bool, true, false, List, [], ◌∷◌, length, Option, Some, None, Result, Ok, Err, IfOk, IfSome, IsSome, MatchOption, inl, inr, refl, sym, subst, arith}
 use Rattle.grid.specs.Board.{Board}
 use Rattle.grid.proofs.lemmas.Plays.{length-pushes}
 use Rattle.grid.specs.Lawful.{box_count}
@@ -11,8 +11,10 @@ use Rattle.judging.specs.declared.judgement.Counts.{Counts}
 use Rattle.judging.specs.declared.judgement.Judgement.{Judgement}
 use Rattle.judging.specs.declared.judgement.Judgement.TheVariants as is
 use Rattle.judging.specs.declared.judgement.Known.{Known}
+use Rattle.judging.specs.declared.judgement.LimitKind.{LimitKind}
+use Rattle.judging.specs.declared.judgement.LimitKind.TheVariants.{Positions, Seconds}
 use Rattle.judging.specs.declared.judgement.MovesClaim.{MovesClaim}
-use Rattle.judging.specs.declared.judgement.MovesClaim.TheVariants.{Counted, Fewest, Open}
+use Rattle.judging.specs.declared.judgement.MovesClaim.TheVariants.{Counted, Fewest}
 use Rattle.judging.specs.declared.judgement.Settings.{Settings}
 use Rattle.lurd.proofs.lemmas.Solutions.{solution_of_solved}
 use Rattle.lurd.specs.Text.{IsText, HasTextFault}
@@ -24,24 +26,27 @@ use Rattle.lurd.specs.declared.verdict.Verdict.TheVariants.{Solved, Unsolved, Bl
 use Rattle.prices.specs.Fewest.{NoneHasFewer}
 use Rattle.prover.specs.Reachable.{HasMore}
 use Rattle.prices.specs.Searching.{IsFault}
+use Rattle.prices.specs.Solving.{Allows}
+use Rattle.prices.specs.Timing.{IsLate}
 use Rattle.prover.specs.Outcomes.{IsOutcome}
 use Rattle.prover.specs.declared.outcome.Outcome.{Outcome}
-use Rattle.prover.specs.declared.outcome.Outcome.TheVariants.{Least, NoneWithin, Unsolvable, Limit}
+use Rattle.prover.specs.declared.outcome.Outcome.TheVariants.{Least, NoneWithin, Unsolvable, Limit, Stopped}
+use Rattle.prover.proofs.lemmas.Outcomes.{outcome_then}
 use Rattle.prices.specs.declared.fault.SearchFault.{SearchFault}
 use Rattle.prices.specs.declared.fault.SearchFault.TheVariants.{TooManyBoxes, OutOfMemory}
 use Rattle.shortest.specs.Outcomes.{IsMovesOutcome}
-use Rattle.shortest.specs.Shortest.{NoneIsBetter}
+use Rattle.shortest.specs.Shortest.{HasMoreStates, NoneIsBetter}
 use Rattle.shortest.specs.declared.outcome.MovesOutcome.{MovesOutcome}
 use Rattle.shortest.specs.declared.outcome.MovesOutcome.TheVariants as moves_outcome
-use Rattle.sokopar.specs.Judging.{IsBetter, IsClaim, IsEnd, IsFailure, IsGiven, IsJudged, IsJudgedGiven, IsJudgedText, IsKnown, IsOpen, IsUnsolvable, IsWithinCap}
+use Rattle.sokopar.specs.Judging.{HasReached, IsBetter, IsClaim, IsEnd, IsFailure, IsGiven, IsJudged, IsJudgedGiven, IsJudgedText, IsOpen, IsWithinCap}
 use Rattle.sokopar.specs.inside.Parts.{IsBeside, IsCompared, failed, found_known, given_known}
 
 -- ---- what a search says
 
 -- a solution with the fewest pushes that a search found
-pub least_of : (cap : Option ℕ) (limit : ℕ) (board : Board) (o : Outcome) (letters : List Letter) (pushes : ℕ) → IsOutcome board cap limit o →
-    o ≡ Least letters pushes → IsOutcome board cap limit (Least letters pushes)
-least_of cap limit board o letters pushes is e = subst (λ (x : Outcome). IsOutcome board cap limit x) e is
+pub least_of : (cap : Option ℕ) (limit : ℕ) (Late : Type 0) (board : Board) (o : Outcome) (letters : List Letter) (pushes : ℕ) → IsOutcome board cap limit Late o →
+    o ≡ Least letters pushes → IsOutcome board cap limit Late (Least letters pushes)
+least_of cap limit Late board o letters pushes is e = subst (λ (x : Outcome). IsOutcome board cap limit Late x) e is
 
 -- the judgement if a search failed
 pub failed_judged : (set : Settings) (board : Board) (fault : SearchFault) (judgement : Judgement) → judgement ≡ failed None fault →
@@ -64,35 +69,53 @@ failed_compared set board given fault judgement few made right = subst (λ (j : 
 pub no_cap : (cap : Option ℕ) (pushes : ℕ) → cap ≡ None → IsWithinCap cap pushes
 no_cap cap pushes e = subst (λ (c : Option ℕ). IsWithinCap c pushes) (sym e) tt
 
--- a search found no more than its cap
-pub within_cap : (cap : Option ℕ) (limit : ℕ) (board : Board) (o : Outcome) (letters : List Letter) (pushes : ℕ) → IsOutcome board cap limit o →
-    o ≡ Least letters pushes → IsWithinCap cap pushes
-within_cap cap limit board o letters pushes is e = by cap (least_of cap limit board o letters pushes is e)
-  where
-    by : (cap : Option ℕ) → IsOutcome board cap limit (Least letters pushes) → IsWithinCap cap pushes
-    by None found = tt
-    by (Some most) found = found.2
+-- a bound that the cap allows
+allowed_within : (cap : Option ℕ) (bound : ℕ) → Allows cap bound → IsWithinCap cap bound
+allowed_within None bound allowed = tt
+allowed_within (Some most) bound allowed = allowed
 
--- what a search says at its limit
-limit_of : (cap : Option ℕ) (limit : ℕ) (board : Board) (o : Outcome) (bound : ℕ) → IsOutcome board cap limit o → o ≡ Limit bound →
-    IsOutcome board cap limit (Limit bound)
-limit_of cap limit board o bound is e = subst (λ (x : Outcome). IsOutcome board cap limit x) e is
+-- what a search says at its limit of positions, and of seconds
+pub limit_least : (set : Settings) (cap : Option ℕ) (board : Board) (o : Outcome) (bound : ℕ) →
+    IsOutcome board cap set.limit (IsSome set.seconds) o → o ≡ Limit bound →
+    NoneHasFewer board bound × (HasReached set Positions (HasMore board set.limit) × IsWithinCap cap bound)
+limit_least set cap board o bound is e =
+    let (least, more, allowed) = subst (λ (x : Outcome). IsOutcome board cap set.limit (IsSome set.seconds) x) e is in
+    (least, (more, allowed_within cap bound allowed))
 
-pub limit_least : (cap : Option ℕ) (limit : ℕ) (board : Board) (o : Outcome) (bound : ℕ) → IsOutcome board cap limit o → o ≡ Limit bound →
-    NoneHasFewer board bound
-limit_least cap limit board o bound is e = (limit_of cap limit board o bound is e).0
+pub stopped_least : (set : Settings) (cap : Option ℕ) (board : Board) (o : Outcome) (bound : ℕ) →
+    IsOutcome board cap set.limit (IsSome set.seconds) o → o ≡ Stopped bound →
+    NoneHasFewer board bound × (HasReached set Seconds (HasMore board set.limit) × IsWithinCap cap bound)
+stopped_least set cap board o bound is e =
+    let (least, late, allowed) = subst (λ (x : Outcome). IsOutcome board cap set.limit (IsSome set.seconds) x) e is in
+    (least, (late, allowed_within cap bound allowed))
 
-pub limit_open : (cap : Option ℕ) (limit : ℕ) (board : Board) (o : Outcome) (bound : ℕ) → IsOutcome board cap limit o → o ≡ Limit bound →
-    HasMore board limit
-limit_open cap limit board o bound is e = (limit_of cap limit board o bound is e).1
+-- a search whose time is up has a limit of seconds
+late_set : (seconds : Option ℕ) (Told : ℕ → Type 0) → IsLate seconds Told → IsSome seconds
+late_set seconds Told (most, run, is, long, told) = subst (λ (o : Option ℕ). IsSome o) (sym is) refl
 
-pub limit_within : (cap : Option ℕ) (limit : ℕ) (board : Board) (o : Outcome) (bound : ℕ) → IsOutcome board cap limit o → o ≡ Limit bound →
-    IsWithinCap cap bound
-limit_within cap limit board o bound is e = by cap (limit_of cap limit board o bound is e)
-  where
-    by : (cap : Option ℕ) → IsOutcome board cap limit (Limit bound) → IsWithinCap cap bound
-    by None found = tt
-    by (Some most) found = found.2
+pub outcome_timed : (board : Board) (cap : Option ℕ) (limit : ℕ) (seconds : Option ℕ) (Told : ℕ → Type 0) (o : Outcome) →
+    IsOutcome board cap limit (IsLate seconds Told) o → IsOutcome board cap limit (IsSome seconds) o
+outcome_timed board cap limit seconds Told o is = outcome_then board cap limit o (late_set seconds Told) is
+
+-- what a search for the fewest moves says: at its end, and at its limit of positions and of seconds
+pub moves_least : (board : Board) (pushes limit : ℕ) (Late : Type 0) (o : MovesOutcome) (letters : List Letter) →
+    IsMovesOutcome board pushes limit Late o → o ≡ moves_outcome.Least letters →
+    IsVerdict board letters (Solved pushes (length letters)) × NoneIsBetter board pushes (length letters)
+moves_least board pushes limit Late o letters is e =
+    subst (λ (x : MovesOutcome). IsMovesOutcome board pushes limit Late x) e is
+
+pub moves_limit : (set : Settings) (board : Board) (pushes : ℕ) (Late : Type 0) (o : MovesOutcome) →
+    IsMovesOutcome board pushes set.limit Late o → o ≡ moves_outcome.Limit →
+    HasReached set Positions (HasMoreStates board pushes set.limit)
+moves_limit set board pushes Late o is e = subst (λ (x : MovesOutcome). IsMovesOutcome board pushes set.limit Late x) e is
+
+pub moves_stopped : (set : Settings) (board : Board) (pushes : ℕ) (Told : ℕ → Type 0) (o : MovesOutcome) →
+    IsMovesOutcome board pushes set.limit (IsLate set.seconds Told) o → o ≡ moves_outcome.Stopped →
+    HasReached set Seconds (HasMoreStates board pushes set.limit)
+moves_stopped set board pushes Told o is e = late_set set.seconds Told
+    (subst (λ (x : MovesOutcome). IsMovesOutcome board pushes set.limit (IsLate set.seconds Told) x) e is)
+
+pub ruleset timed = (outcome_timed, moves_least, moves_limit, moves_stopped)
 
 -- a solution that has no more pushes than a bound has the fewest
 pub fewest_at_bound : (board : Board) (bound pushes : ℕ) → NoneHasFewer board bound → pushes ≤ bound → NoneHasFewer board pushes
@@ -101,31 +124,31 @@ fewest_at_bound board bound pushes none few ds ps solution = let least = none ds
 -- ---- what is known
 
 -- of a solution that was found
-pub beside_found : (set : Settings) (board : Board) (given : Option Counts) (known : Known) (letters : List Letter) (pushes bound : ℕ) (claim : MovesClaim) →
-    known ≡ found_known given letters pushes bound claim → IsVerdict board letters (Solved pushes (length letters)) → IsWithinCap set.cap pushes →
+pub beside_found : (set : Settings) (board : Board) (given : Option Counts) (known : Known) (letters : List Letter) (pushes bound : ℕ) (claim : MovesClaim)
+    (limit : LimitKind) → known ≡ found_known given letters pushes bound claim limit → IsVerdict board letters (Solved pushes (length letters)) → IsWithinCap set.cap pushes →
     NoneHasFewer board bound → IfSome given (IsBetter set (record { pushes = pushes; moves = length letters })) →
-    ((pushes ≡ bound) × IsClaim set board (record { pushes = pushes; moves = length letters }) claim) ⊎ ((bound < pushes) × IsOpen set board bound) →
+    ((pushes ≡ bound) × IsClaim set board limit (record { pushes = pushes; moves = length letters }) claim) ⊎ ((bound < pushes) × IsOpen set board limit bound) →
     IsBeside set board given known
-beside_found set board given known letters pushes bound claim is solved within none better end =
+beside_found set board given known letters pushes bound claim limit is solved within none better end =
     subst (λ (k : Known). IsBeside set board given k) (sym is) (refl, record { found = ((solved, within), better); bound = none; end = end })
 
 -- of a given solution
-pub beside_given : (set : Settings) (board : Board) (given : Counts) (known : Known) (bound : ℕ) (claim : MovesClaim) →
-    known ≡ given_known (Some given) bound claim → NoneHasFewer board bound →
-    ((given.pushes ≡ bound) × IsClaim set board given claim) ⊎ ((bound < given.pushes) × IsOpen set board bound) →
+pub beside_given : (set : Settings) (board : Board) (given : Counts) (known : Known) (bound : ℕ) (claim : MovesClaim) (limit : LimitKind) →
+    known ≡ given_known (Some given) bound claim limit → NoneHasFewer board bound →
+    ((given.pushes ≡ bound) × IsClaim set board limit given claim) ⊎ ((bound < given.pushes) × IsOpen set board limit bound) →
     IsBeside set board (Some given) known
-beside_given set board given known bound claim is none end =
+beside_given set board given known bound claim limit is none end =
     subst (λ (k : Known). IsBeside set board (Some given) k) (sym is) (refl, record { found = tt; bound = none; end = end })
 
 -- of none beyond the given one, at a limit
-pub beside_open : (set : Settings) (board : Board) (given : Option Counts) (known : Known) (bound : ℕ) →
-    known ≡ given_known given bound Counted → NoneHasFewer board bound → IsOpen set board bound →
+pub beside_open : (set : Settings) (board : Board) (given : Option Counts) (known : Known) (bound : ℕ) (limit : LimitKind) →
+    known ≡ given_known given bound Counted limit → NoneHasFewer board bound → IsOpen set board limit bound →
     IfSome given (λ (s : Counts). bound < s.pushes) → IsBeside set board given known
-beside_open set board given known bound is none open_so more =
+beside_open set board given known bound limit is none open_so more =
     subst (λ (k : Known). IsBeside set board given k) (sym is) (refl, record { found = tt; bound = none; end = by given more })
   where
     by : (given : Option Counts) → IfSome given (λ (s : Counts). bound < s.pushes) →
-        MatchOption (at_hand given None) (IsOpen set board bound) (IsEnd set board (given_known given bound Counted))
+        MatchOption (at_hand given None) (IsOpen set board limit bound) (IsEnd set board (given_known given bound Counted limit))
     by None more = open_so
     by (Some s) more = inr (more, open_so)
 
@@ -144,20 +167,10 @@ not_fewer board pushes least moves none few ds ps solution = elim (none ds ps so
   | inr (same, more) ↦ inr (same, omega (arith, more, few))
 ]
 
-pub claim_counted : (set : Settings) (board : Board) (s : Counts) → set.moves ≡ false → IsClaim set board s Counted
-claim_counted set board s e = e
-
-pub claim_fewest : (set : Settings) (board : Board) (pushes least moves : ℕ) → set.moves ≡ true → NoneIsBetter board pushes least → moves ≤ least →
-    IsClaim set board (record { pushes = pushes; moves = moves }) Fewest
-claim_fewest set board pushes least moves e none few = (e, not_fewer board pushes least moves none few)
-
-pub claim_open : (set : Settings) (board : Board) (s : Counts) (o : MovesOutcome) → set.moves ≡ true → IsMovesOutcome board s.pushes set.limit o →
-    o ≡ moves_outcome.Limit → IsClaim set board s Open
-claim_open set board s o e is limited = (e, subst (λ (x : MovesOutcome). IsMovesOutcome board s.pushes set.limit x) limited is)
-
-pub least_moves : (board : Board) (pushes limit : ℕ) (o : MovesOutcome) (letters : List Letter) → IsMovesOutcome board pushes limit o →
-    o ≡ moves_outcome.Least letters → IsMovesOutcome board pushes limit (moves_outcome.Least letters)
-least_moves board pushes limit o letters is e = subst (λ (x : MovesOutcome). IsMovesOutcome board pushes limit x) e is
+pub claim_fewest : (set : Settings) (board : Board) (limit : LimitKind) (pushes least moves : ℕ) → set.moves ≡ true →
+    NoneIsBetter board pushes least → moves ≤ least →
+    IsClaim set board limit (record { pushes = pushes; moves = moves }) Fewest
+claim_fewest set board limit pushes least moves e none few = (e, not_fewer board pushes least moves none few)
 
 -- ---- judgements
 
@@ -177,21 +190,6 @@ judged_of set board letters given (is.BadText fault) few has bad = absurd bad
 judged_of set board letters given (is.Faulty fault) few has bad = absurd bad
 judged_of set board letters given is.CannotRead few has bad = absurd bad
 judged_of set board letters given is.Missing few has bad = absurd bad
-
--- the judgement of an outcome without a solution
-pub judged_none : (set : Settings) (board : Board) (o : Outcome) → box_count board ≤ MAX_BOXES → IsOutcome board set.cap set.limit o →
-    o ≡ NoneWithin → IsJudged set board None is.NoneWithin
-judged_none set board o few is e = (few, by (subst (λ (x : Outcome). IsOutcome board set.cap set.limit x) e is))
-  where
-    by : IsOutcome board set.cap set.limit NoneWithin → (most : ℕ) × (set.cap ≡ Some most) × NoneHasFewer board (suc most)
-    by (most, capped, none) = (most, capped, λ ds ps solution. none ds ps solution.0 solution.1 solution.2)
-
-pub judged_unsolvable : (set : Settings) (board : Board) (o : Outcome) → box_count board ≤ MAX_BOXES → IsOutcome board set.cap set.limit o →
-    o ≡ Unsolvable → IsJudged set board None is.Unsolvable
-judged_unsolvable set board o few is e = let found = by (subst (λ (x : Outcome). IsOutcome board set.cap set.limit x) e is) in (few, found.0, found.1)
-  where
-    by : IsOutcome board set.cap set.limit Unsolvable → (set.cap ≡ None) × IsUnsolvable board
-    by (uncapped, lost) = (uncapped, λ ds ps solution. lost solution.0 ds ps solution.1 solution.2)
 
 -- ---- letters and texts
 

@@ -18,6 +18,4 @@ mod Sentencing
 mod Shown
 mod ShownAgain
 mod Solutions
-mod Walks
 mod Writing
-pub mod Written

@@ -13,7 +13,7 @@ use Rattle.xsb.specs.declared.limits.TheConstants.{MAX_FILE}
 use Rattle.xsb.specs.declared.reader.Collection.{Collection}
 use Rattle.xsb.specs.inside.Progress.{HasRead, GivesNext, lines_left}
 use Rattle.sokopar.specs.Entries.{listed_of}
-use Rattle.sokopar.specs.Listing.{Listed, IsListed, IsLevelListing, level_at}
+use Rattle.sokopar.specs.Listing.{Listed, IsLevelAt, IsListed, IsLevelListing}
 use Rattle.sokopar.specs.inside.Parts.{is_good}
 use Rattle.sokopar.specs.Report.{Report, IsCheckReport, line, check_line, check_lines, check_report, good_count}
 
@@ -143,7 +143,7 @@ pub record HasLooked (bytes : List ℕ) (left : Collection) (number count : ℕ)
   pub listing : List Listed
   pub so_far : HasListed bytes left listing
   pub counted : count ≡ length listing
-  pub is : chosen ≡ level_at listing number
+  pub is : chosen ≡ option_map (λ listed. listed.board) (slice_get listing (number - 1))
   pub room : count + lines_left left ≤ MAX_FILE
 
 get-last : (listing : List Listed) (listed : Listed) (k : ℕ) → k ≡ length listing → slice_get (listing ++ listed ∷ []) k ≡ Some listed
@@ -191,5 +191,6 @@ looked_on {bytes} {first} {number} {count} {chosen} last read entry is gives one
 -- no board more
 pub looked_all : {bytes : List ℕ} {first : Collection} {number count : ℕ} {chosen : Option (Result Board LevelFault)} (last : Collection)
     (read : Option BoardEntry) → HasLooked bytes first number count chosen → Next first last read → read ≡ None →
-    (listing : List Listed) × IsLevelListing bytes listing × (chosen ≡ level_at listing number)
-looked_all last read is gives none = (is.listing, listed-all last is.so_far (next_given last read None is.so_far gives none), is.is)
+    IsLevelAt bytes number chosen
+looked_all last read is gives none =
+    record { listing = is.listing; lists = listed-all last is.so_far (next_given last read None is.so_far gives none); is = is.is }

@@ -19,10 +19,10 @@ use Rattle.solo.specs.declared.answer.Answer.{Answer}
 use Rattle.xsb.specs.Collection.{Found, IsCollection, IsJudged}
 use Rattle.xsb.specs.Written.{rows_from}
 use Rattle.sokopar.specs.DeadMap.{IsMark, wall, goal, dead, other, AreMarks, IsDeadReport, IsMapOf, marked_row}
-use Rattle.sokopar.specs.Listing.{Listed, IsListed, IsLevelListing, level_at}
+use Rattle.sokopar.specs.Listing.{Listed, IsLevelAt, IsListed, IsLevelListing}
 use Rattle.sokopar.specs.OneAtMost.{IsOneAtMost}
 use Rattle.sokopar.specs.OneReport.{IsOnlyReport}
-use Rattle.sokopar.specs.Report.{Report, IsReplayOf, IsCheckReport, IsShowReport, IsReplayReport, ReportsOnText, ReportsOn, IsShown, check_report}
+use Rattle.sokopar.specs.Report.{Report, IsReportOn, IsReplayOf, IsCheckReport, IsShowReport, IsReplayReport, ReportsOnText, ReportsOn, IsShown, check_report}
 use Rattle.sokopar.specs.Report.{text_fault_report, verdict_report}
 use Rattle.sokopar.specs.Solving.{IsSolveOf, IsSolveReport, answer_report}
 
@@ -203,13 +203,17 @@ same_on Has n None one report others told also = also ∙ sym told
 same_on Has n (Some (Err fault)) one report others told also = also ∙ sym told
 same_on Has n (Some (Ok board)) one report others told also = one board refl report others told also
 
+one_level : AreOneCollection → (bytes : List ℕ) (n : ℕ) (level again : Option (Result Board LevelFault)) → IsLevelAt bytes n level →
+    IsLevelAt bytes n again → again ≡ level
+one_level law bytes n level again has also =
+    also.is ∙ ap (λ l. option_map (λ listed. listed.board) (slice_get l (n - 1))) (one_listing law bytes has.listing also.listing has.lists also.lists)
+    ∙ sym has.is
+
 one_on : AreOneCollection → (Has : Board → Report → Type 0) (n : ℕ) (bytes : List ℕ) →
-    ((board : Board) → IsLevel board → IsOneAtMost (λ report. Has board report)) →
-    IsOneAtMost (λ report. (listing : List Listed) × IsLevelListing bytes listing × ReportsOn Has n (level_at listing n) report)
-one_on law Has n bytes one report others (xs, lists, told) (ys, listed, also) =
-    let P : List Listed → Type 0 = λ l. ReportsOn Has n (level_at l n) others in
-    same_on Has n (level_at xs n) (λ board is. one board (lawful_at lists.0 xs (n - 1) board lists.2 is)) report others told
-    (subst P (one_listing law bytes xs ys lists listed) also)
+    ((board : Board) → IsLevel board → IsOneAtMost (λ report. Has board report)) → IsOneAtMost (λ report. IsReportOn Has n bytes report)
+one_on law Has n bytes one report others (level, here, told) (again, there, also) =
+    same_on Has n level (λ board is. one board (lawful_at here.lists.0 here.listing (n - 1) board here.lists.2 (sym here.is ∙ is))) report others told
+    (subst (λ l. ReportsOn Has n l others) (one_level law bytes n level again here there) also)
 
 pub one_show_report : AreOneCollection → (n : ℕ) (bytes : List ℕ) → IsOneAtMost (λ report. IsShowReport n bytes report)
 one_show_report law n bytes = one_on law IsShown n bytes (λ board lawful report others told also. also ∙ sym told)
@@ -219,9 +223,9 @@ one_dead_report law n bytes = one_on law IsMapOf n bytes (λ board lawful. same_
 
 pub one_replay_report : AreOneCollection → IsOneReading → IsOneVerdict → (n : ℕ) (bytes : List ℕ) (solution : Option (List ℕ)) →
     IsOneAtMost (λ report. IsReplayReport n bytes solution report)
-one_replay_report law reading judging n bytes solution report others (xs, lists, told) (ys, listed, also) =
-    let P : List Listed → Type 0 = λ l. ReportsOnText IsReplayOf n (level_at l n) solution others in
-    same_replay_on reading judging n (level_at xs n) solution report others told (subst P (one_listing law bytes xs ys lists listed) also)
+one_replay_report law reading judging n bytes solution report others (level, here, told) (again, there, also) =
+    same_replay_on reading judging n level solution report others told
+    (subst (λ l. ReportsOnText IsReplayOf n l solution others) (one_level law bytes n level again here there) also)
 
 pub one_solve_report : AreOneCollection → IsOneAnswer → (cap : Option ℕ) (limit n : ℕ) (bytes : List ℕ) →
     IsOneAtMost (λ report. IsSolveReport cap limit n bytes report)

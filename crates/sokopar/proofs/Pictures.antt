@@ -1,10 +1,9 @@
 -- The bytes of the cells of a board, as they are shown.
-use Rattle.std.proofs.Common.{◌≡◌, ℕ, List, ◌++◌, length, get_or, slice_index, Result, Ok, Err, OnOk, ap, ◌∙◌, subst, arith}
+use Rattle.std.proofs.Common.{◌≡◌, ℕ, List, ◌++◌, length, get_or, slice_index, ap, ◌∙◌, subst, arith}
 use Rattle.grid.specs.Board.{Board}
 use Rattle.grid.specs.declared.cell.Cell.{Cell}
 use Rattle.grid.specs.declared.cell.Cell.TheVariants.{Wall}
-use Rattle.grid.specs.declared.fault.LevelFault.{LevelFault}
-use Rattle.sokopar.specs.Explaining.{AreShown, IsPicture, IsShown, drawn}
+use Rattle.sokopar.specs.Explaining.{AreShown, IsShown}
 use Rattle.sokopar.proofs.Maps.{HaveBytes}
 
 -- all cells have their bytes
@@ -15,10 +14,3 @@ all_shown board cells bytes count same have =
       count = count ∙ long;
       each = λ q below. subst (λ (cs : List Cell). IsShown board q (get_or cs q Wall) (slice_index bytes q)) same (have q (omega arith));
     }
-
--- the picture of a board is appended, if memory lasts
-pub picture_drawn : {A E : Type 0} (result : Result A E) (judged : Result Board LevelFault) (board : Board) (picture bytes old new : List ℕ) →
-    IsPicture judged board.cells picture → bytes ≡ picture → OnOk result (new ≡ old ++ drawn board bytes) →
-    OnOk result ((all : List ℕ) × IsPicture judged board.cells all × (new ≡ old ++ drawn board all))
-picture_drawn (Err e) judged board picture bytes old new is same text = tt
-picture_drawn (Ok a) judged board picture bytes old new is same text = (picture, is, text ∙ ap (λ b. old ++ drawn board b) same)

@@ -1,7 +1,7 @@
 -- Boxes and goals that make a lawful level unsolvable.
 use Rattle.std.proofs.Common.{◌≡◌, ◌≢◌, ℕ, ◌+◌, ◌<◌, ◌≤◌, Bool, true, false, ◌⊎◌, ◌↔◌, IsTrue, MatchBool, eqb, inl, inr, List, [], ◌∷◌, ◌++◌, length, get_or, take}
 use Rattle.std.proofs.Common.{Option, None, MatchOption, Vec, Global, ◌∙◌, arith, refl, sym, ap, subst}
-use Rattle.std.proofs.lemmas.Bool.{cases_lt, eqb-true, or_cases, or_left, or_right, false≢true, true≢false}
+use Rattle.std.proofs.lemmas.Bool.{cases_lt, eqb-true, or_cases, or_left, or_right, false≢true}
 use Rattle.std.proofs.lemmas.List.{take_more}
 use Rattle.doom.specs.Deadlocks.{Doomed, IsDead, IsFrozen, Undoomed}
 use Rattle.doom.specs.Lost.{AreLost, IsLost}
@@ -11,7 +11,7 @@ use Rattle.grid.specs.declared.dir.Dir.TheVariants.{D, L, R, U}
 use Rattle.grid.specs.declared.square.Push.{Push}
 use Rattle.grid.specs.declared.state.Step.{Step}
 use Rattle.grid.specs.declared.state.Step.TheVariants.{Blocked}
-use Rattle.grid.specs.Board.{Board, Pushes, Scene, IsSolved, Walks, box_cell, goal_cell, is_goal, is_wall, next, start, start_player}
+use Rattle.grid.specs.Board.{Board, Pushes, Scene, IsSolved, Walks, box_cell, goal_cell, next, start}
 use Rattle.grid.specs.Lawful.{InRoom, IsLevel, here, beside}
 use Rattle.grid.specs.Plays.{Any, Play, stay, walk, push}
 use Rattle.grid.specs.Squares.{Squares, contains, places_from}
@@ -20,13 +20,12 @@ use Rattle.grid.proofs.lemmas.Places.{contains-places}
 use Rattle.grid.proofs.lemmas.Plays.{play_fits}
 use Rattle.grid.proofs.lemmas.Squares.{contains_head}
 use Rattle.grid.proofs.lemmas.Steps.{inside_grid, push_other, scene_after_push, scene_after_walk, walk_boxes, walk_player}
-use Rattle.prices.specs.Prices.{goals_of}
 use Rattle.prices.proofs.lemmas.Solved.{solved_are_goals}
 use Rattle.sokopar.specs.Judging.{IsUnsolvable}
-use Rattle.sokopar.specs.Explaining.{AreIn, IsIn, IsRemarkOnLevel, also, empty, endangered, others}
+use Rattle.sokopar.specs.Explaining.{AreIn, IsIn, also, empty, endangered, others}
 use Rattle.sokopar.specs.declared.remark.Plight.{Plight}
 use Rattle.sokopar.specs.declared.remark.Plight.TheVariants.{Unreached, Unfilled, OnDead}
-use Rattle.sokopar.specs.inside.Explaining.{AreFrozen, AreSafe, IsLostBy}
+use Rattle.sokopar.specs.inside.Explaining.{AreFrozen, IsLostBy}
 
 -- no play solves a level that is lost at its start
 pub lost_start : (board : Board) → IsLost board (start board) → IsUnsolvable board
@@ -195,11 +194,6 @@ dead_in board other plight q true same is told = subst (λ p. IsIn board p q) (s
 dead_in board other plight q false same is told =
     λ one. false≢true (told.1 (subst (λ b. IsDead b q) (sym same) (subst (λ p. IsIn board p q) is one)))
 
--- the squares in a plight, if there are some
-pub some_lost : (board : Board) (plight : Plight) (squares : Squares) → 1 ≤ length squares → AreIn board plight (endangered board plight) squares →
-    IsLostBy board plight squares
-some_lost board plight squares some are = (are, λ none. let zero = ap length none in omega arith)
-
 -- or there are none
 pub none_lost : (board : Board) (plight : Plight) (found : Option (Vec ℕ Global)) → MatchOption found (AreIn board plight (endangered board plight) [])
     (λ squares. IsLostBy board plight squares.items) → found ≡ None → AreIn board plight (endangered board plight) []
@@ -207,20 +201,10 @@ none_lost board plight found told is =
     subst (λ (one : Option (Vec ℕ Global)). MatchOption one (AreIn board plight (endangered board plight) []) (λ squares. IsLostBy board plight squares.items))
     is told
 
--- no square is in any plight
-pub all_safe : (board : Board) → AreIn board Unreached (endangered board Unreached) [] → AreIn board Unfilled (endangered board Unfilled) [] →
-    AreIn board OnDead (endangered board OnDead) [] → AreSafe board
-all_safe board a b c Unreached = a
-all_safe board a b c Unfilled = b
-all_safe board a b c OnDead = c
-
 -- no step in the first directions was possible
 pub record AreBlocked (board : Board) (count : ℕ) (now : Scene) : Type 0 where
   pub same : now ≡ start board
   pub blocked : (i : ℕ) → i < count → Steps board (start board) (get_or (D ∷ L ∷ R ∷ U ∷ []) i D) Blocked (start board)
-
-pub blocked_none : (board : Board) (now : Scene) → now ≡ start board → AreBlocked board 0 now
-blocked_none board now same = record { same = same; blocked = λ i below. absurd (omega (arith, below)) }
 
 -- nor in the next one
 pub blocked_more : (board : Board) (count : ℕ) (now new : Scene) (did : Step) → AreBlocked board count now → did ≡ Blocked →

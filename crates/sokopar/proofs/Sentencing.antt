@@ -1,14 +1,8 @@
 -- Texts one after the other.
 use Rattle.std.proofs.Common.{◌≡◌, ℕ, List, [], ◌∷◌, ◌++◌, Result, Ok, Err, OnOk, codes, ap, ◌∙◌, append_assoc}
-use Rattle.std.proofs.Common.{Bool, true, false, cond, eqb, sym, Vec, Global, refl}
+use Rattle.std.proofs.Common.{Bool, true, false, cond, eqb, sym}
 use Rattle.std.proofs.lemmas.Bool.{eqb-true}
-use Rattle.grid.specs.Squares.{Squares}
-use Rattle.xsb.specs.declared.places.RowPlace.{RowPlace}
-use Rattle.sokopar.specs.Explaining.{remark_words, sentence, sentences}
-use Rattle.sokopar.specs.declared.remark.Plight.{Plight}
-use Rattle.sokopar.specs.declared.remark.Plight.TheVariants.{Unreached, Unfilled, OnDead}
-use Rattle.sokopar.specs.declared.remark.Remark.TheVariants.{Lost}
-use Rattle.sokopar.specs.inside.Explaining.{plight_words}
+use Rattle.sokopar.specs.Explaining.{sentence}
 
 -- one text follows another
 pub then_said : {A E : Type 0} (result : Result A E) (old mid new first second : List ℕ) → mid ≡ old ++ first →
@@ -29,22 +23,6 @@ sentence_said (Ok x) old a b c d one two three four five new first second third 
     let all : five ≡ old ++ (codes "  " ++ (a ++ b ++ c ++ d)) =
     four_is ∙ ap (λ t. t ++ (a ++ b ++ c ++ d)) first ∙ append_assoc old (codes "  ") (a ++ b ++ c ++ d) in
     last ∙ ap (λ t. t ++ 10 ∷ []) all ∙ append_assoc old (codes "  " ++ (a ++ b ++ c ++ d)) (10 ∷ [])
-
--- the sentences of squares in a plight are those of the remark
-lost_words : (cols : ℕ) (places : List RowPlace) (plight : Plight) (squares : Vec ℕ Global) →
-    sentences (plight_words plight) cols places squares.items ≡ remark_words cols places (Lost plight squares)
-lost_words cols places Unreached squares = refl
-lost_words cols places Unfilled squares = refl
-lost_words cols places OnDead squares = refl
-
-pub lost_said : {A E : Type 0} (result : Result A E) (old new : List ℕ) (cols : ℕ) (places : List RowPlace) (plight : Plight) (squares : Vec ℕ Global)
-    (words : List ℕ) (listed : Squares) → words ≡ plight_words plight → listed ≡ squares.items →
-    OnOk result (new ≡ old ++ sentences words cols places listed) → OnOk result (new ≡ old ++ remark_words cols places (Lost plight squares))
-lost_said (Err e) old new cols places plight squares words listed told are said = tt
-lost_said (Ok a) old new cols places plight squares words listed told are said =
-    said ∙ ap (λ (w : List ℕ). old ++ sentences w cols places listed) told
-    ∙ ap (λ (l : Squares). old ++ sentences (plight_words plight) cols places l) are
-    ∙ ap (λ (t : List ℕ). old ++ t) (lost_words cols places plight squares)
 
 -- three texts in turn
 pub three_put : {A E : Type 0} (result : Result A E) (old first second third one two new : List ℕ) → one ≡ old ++ first → two ≡ one ++ second →

@@ -5,7 +5,7 @@ use Rattle.std.proofs.lemmas.List.{append-nil}
 use Rattle.xsb.specs.declared.entry.BoardEntry.{BoardEntry}
 use Rattle.xsb.specs.declared.limits.TheConstants.{MAX_FILE}
 use Rattle.xsb.specs.declared.reader.Collection.{Collection}
-use Rattle.xsb.specs.inside.Progress.{HasRead, GivesNext, lines_left}
+use Rattle.xsb.specs.inside.Progress.{GivesNext, lines_left}
 use Rattle.sokopar.specs.Entries.{listed_of}
 use Rattle.sokopar.specs.Listing.{Listed}
 use Rattle.sokopar.specs.Report.{Report, no_level}
@@ -20,17 +20,6 @@ pub record HasShown (from to : ℕ) (bytes : List ℕ) (left : Collection) (text
   pub bad : faulty ≡ has_fault from to 1 listing
   pub count : number ≡ length listing
   pub room : number + lines_left left ≤ MAX_FILE
-
-pub shown-none : (from to : ℕ) (bytes : List ℕ) (left : Collection) (text : List ℕ) → HasRead bytes left [] → text ≡ [] → lines_left left ≤ MAX_FILE →
-    HasShown from to bytes left text 0 false
-shown-none from to bytes left text read none few = record {
-  listing = [];
-  so_far = record { founds = []; read = read; each = tt };
-  levels = none;
-  bad = refl;
-  count = refl;
-  room = omega arith;
-}
 
 -- what is shown of level n, if it is in the range
 abbrev pub if_shown : ℕ → ℕ → ℕ → Listed → List ℕ

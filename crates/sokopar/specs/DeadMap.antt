@@ -5,8 +5,7 @@ use Rattle.grid.specs.Lawful.{InRoom, row_count}
 use Rattle.doom.specs.Deadlocks.{IsDead}
 use Rattle.xsb.specs.Boards.{cut_end}
 use Rattle.xsb.specs.Written.{rows_from}
-use Rattle.sokopar.specs.Listing.{Listed, IsLevelListing, level_at}
-use Rattle.sokopar.specs.Report.{Report, ReportsOn, line}
+use Rattle.sokopar.specs.Report.{Report, IsReportOn, line}
 
 -- the byte for a square: `#` for a wall, `.` for a goal, `x` for a dead square of the player's room, a space for every
 -- other square; boxes and the player are not shown
@@ -33,5 +32,4 @@ IsMapOf board report =
 
 -- the report of the dead squares of level n of these bytes
 abbrev pub IsDeadReport : ℕ → List ℕ → Report → Type 0
-IsDeadReport n bytes report =
-    (listing : List Listed) × IsLevelListing bytes listing × ReportsOn IsMapOf n (level_at listing n) report
+IsDeadReport n bytes report = IsReportOn IsMapOf n bytes report

@@ -1,6 +1,6 @@
 -- When a judgement of a level is right.
 use Rattle.std.specs.Prelude.{◌≡◌, ℕ, suc, ◌<◌, ◌≤◌, ◌⊎◌, ⊤, Bool, true, false, List}
-use Rattle.std.specs.Prelude.{Option, Some, None, Result, Ok, Err, IfSome, MatchOption}
+use Rattle.std.specs.Prelude.{Option, Some, None, Result, Ok, Err, IfSome, IsSome, MatchOption}
 use Rattle.grid.specs.Board.{Board}
 use Rattle.grid.specs.Lawful.{box_count}
 use Rattle.grid.specs.Plays.{IsSolution}
@@ -19,6 +19,8 @@ use Rattle.judging.specs.declared.judgement.Counts.{Counts}
 use Rattle.judging.specs.declared.judgement.Judgement.{Judgement}
 use Rattle.judging.specs.declared.judgement.Judgement.TheVariants as is
 use Rattle.judging.specs.declared.judgement.Known.{Known}
+use Rattle.judging.specs.declared.judgement.LimitKind.{LimitKind}
+use Rattle.judging.specs.declared.judgement.LimitKind.TheVariants.{Positions, Seconds}
 use Rattle.judging.specs.declared.judgement.MovesClaim.{MovesClaim}
 use Rattle.judging.specs.declared.judgement.MovesClaim.TheVariants.{Counted, Fewest, Open}
 use Rattle.judging.specs.declared.judgement.Settings.{Settings}
@@ -41,25 +43,30 @@ abbrev pub IsBetter : Settings → Counts → Counts → Type 0
 IsBetter set s given =
     (s.pushes < given.pushes) ⊎ ((set.moves ≡ true) × (s.pushes ≡ given.pushes) × (s.moves < given.moves))
 
--- the claim on the moves of a solution with the fewest pushes is right: they are only counted if the fewest are not
--- wanted; if they are, no solution with as few pushes has fewer, or plays with no more pushes reach more states than the
--- limit
-abbrev pub IsClaim : Settings → Board → Counts → MovesClaim → Type 0
-IsClaim set board s Counted = set.moves ≡ false
-IsClaim set board s Fewest = (set.moves ≡ true) × NoneIsBetter board s.pushes s.moves
-IsClaim set board s Open = (set.moves ≡ true) × HasMoreStates board s.pushes set.limit
+-- a search ended at this limit: there is more than the limit of positions, as `More` says; or a limit of seconds is set
+abbrev pub HasReached : Settings → LimitKind → Type 0 → Type 0
+HasReached set Positions More = More
+HasReached set Seconds More = IsSome set.seconds
 
--- the search for the fewest pushes ended at its limit, with a bound that the cap allows: plays reach more positions than
--- the limit
-abbrev pub IsOpen : Settings → Board → ℕ → Type 0
-IsOpen set board bound = HasMore board set.limit × IsWithinCap set.cap bound
+-- the claim on the moves of a solution with the fewest pushes is right: they are only counted if the fewest are not
+-- wanted; if they are, no solution with as few pushes has fewer, or the search ended at a limit, that of positions only
+-- if plays with no more pushes reach more states
+abbrev pub IsClaim : Settings → Board → LimitKind → Counts → MovesClaim → Type 0
+IsClaim set board limit s Counted = set.moves ≡ false
+IsClaim set board limit s Fewest = (set.moves ≡ true) × NoneIsBetter board s.pushes s.moves
+IsClaim set board limit s Open = (set.moves ≡ true) × HasReached set limit (HasMoreStates board s.pushes set.limit)
+
+-- the search for the fewest pushes ended at a limit, with a bound that the cap allows; at that of positions only if plays
+-- reach more positions
+abbrev pub IsOpen : Settings → Board → LimitKind → ℕ → Type 0
+IsOpen set board limit bound = HasReached set limit (HasMore board set.limit) × IsWithinCap set.cap bound
 
 -- the solution at hand has the fewest pushes, with a right claim on its moves; or it has more than the bound, and the
 -- search ended at its limit
 abbrev pub IsEnd : Settings → Board → Known → Counts → Type 0
 IsEnd set board known s =
-    ((s.pushes ≡ known.at_least) × IsClaim set board s known.claim) ⊎
-    ((known.at_least < s.pushes) × IsOpen set board known.at_least)
+    ((s.pushes ≡ known.at_least) × IsClaim set board known.limit s known.claim) ⊎
+    ((known.at_least < s.pushes) × IsOpen set board known.limit known.at_least)
 
 -- the letters solve the level with these numbers, within the cap
 abbrev pub IsFound : Settings → Board → Solution → Type 0
@@ -71,7 +78,7 @@ IsFound set board s =
 pub record IsKnown (set : Settings) (board : Board) (known : Known) : Type 0 where
   pub found : IfSome known.found (λ s. IsFound set board s × IfSome known.given (IsBetter set s.counts))
   pub bound : NoneHasFewer board known.at_least
-  pub end : MatchOption (at_hand known.given known.found) (IsOpen set board known.at_least) (IsEnd set board known)
+  pub end : MatchOption (at_hand known.given known.found) (IsOpen set board known.limit known.at_least) (IsEnd set board known)
 
 -- the given letters solve the level with these numbers; there are no numbers without letters
 abbrev pub IsGiven : Board → Option (List Letter) → Option Counts → Type 0
@@ -110,7 +117,7 @@ IsJudgedText proves set board text judgement =
 
 -- settings without a cap
 abbrev pub uncapped : Settings → Settings
-uncapped set = record { cap = None; limit = set.limit; moves = set.moves }
+uncapped set = record { cap = None; limit = set.limit; moves = set.moves; seconds = set.seconds }
 
 -- the judgement of a board and its given solution is right; the solution is read only if the board is lawful, and there
 -- is no cap

@@ -1,5 +1,5 @@
 -- Reports of `best`, `prove` and `replay` with a line for each level of a collection.
-use Rattle.std.specs.Prelude.{◌≡◌, ℕ, suc, ◌<◌, ◌≤◌, if◌then◌else◌, Bool, true, false, cond, List, [], ◌∷◌, ◌++◌, length, map}
+use Rattle.std.specs.Prelude.{◌≡◌, ℕ, suc, ◌<◌, ◌≤◌, if◌then◌else◌, Bool, false, cond, List, [], ◌∷◌, ◌++◌, length, map}
 use Rattle.std.specs.Prelude.{Option, Some, None, is_some, unwrap_or, Result, Ok, Err, codes}
 use Rattle.std.specs.List.{AllZip}
 use Rattle.grid.specs.Board.{Board}
@@ -114,16 +114,6 @@ pub data EndsWith (from count : ℕ) (last : List ℕ) (worst : ℕ) : List ℕ 
   beyond : count < from → EndsWith from count last worst (no_level from).text (no_level from).status
   within : from ≤ count → EndsWith from count last worst last worst
 
--- the lines and the status are the report of the levels of these bytes with numbers in the range of a request: a head
--- line, the line of each level, and the last line; a line may be empty, and then nothing is written of it
-abbrev pub IsReport : (ℕ → Listed → Reported → Type 0) → Option (List ℕ) → LevelsRequest → List ℕ → List (List ℕ) → ℕ → Type 0
-IsReport IsRight folder request bytes lines status =
-    (listing : List Listed) × IsLevelListing bytes listing × (reported : List Reported) ×
-    AreReported IsRight request.from request.to listing reported × (end : List ℕ) ×
-    EndsWith request.from (length listing) (last_line folder request (kinds_of reported))
-    (last_status folder (kinds_of reported)) end status ×
-    (lines ≡ (head_of request.table ∷ lines_of reported) ++ end ∷ [])
-
 -- the levels are the first ones of the collection of these bytes
 pub record BeginsListing (bytes : List ℕ) (listing : List Listed) : Type 0 where
   pub founds : List Found
@@ -131,9 +121,18 @@ pub record BeginsListing (bytes : List ℕ) (listing : List Listed) : Type 0 whe
   pub all : IsCollection bytes (founds ++ others)
   pub each : AllZip IsListed listing founds
 
--- the lines are the first ones of such a report: the head, and those of the levels so far
-abbrev pub BeginsReport : (ℕ → Listed → Reported → Type 0) → LevelsRequest → List ℕ → List (List ℕ) → Type 0
-BeginsReport IsRight request bytes lines =
+-- the lines and the status are the report of the levels of these bytes with numbers in the range of a request: a head
+-- line, the line of each level, and the last line; a line may be empty, and then nothing is written of it. Without a
+-- status the lines begin such a report: they are the head, and those of the levels so far
+abbrev pub IsReport : (ℕ → Listed → Reported → Type 0) → Option (List ℕ) → LevelsRequest → List ℕ → List (List ℕ) →
+    Option ℕ → Type 0
+IsReport IsRight folder request bytes lines (Some status) =
+    (listing : List Listed) × IsLevelListing bytes listing × (reported : List Reported) ×
+    AreReported IsRight request.from request.to listing reported × (end : List ℕ) ×
+    EndsWith request.from (length listing) (last_line folder request (kinds_of reported))
+    (last_status folder (kinds_of reported)) end status ×
+    (lines ≡ (head_of request.table ∷ lines_of reported) ++ end ∷ [])
+IsReport IsRight folder request bytes lines None =
     (listing : List Listed) × BeginsListing bytes listing × (reported : List Reported) ×
     AreReported IsRight request.from request.to listing reported ×
     (lines ≡ head_of request.table ∷ lines_of reported)

@@ -1,5 +1,5 @@
 -- The levels of a collection, each judged.
-use Rattle.std.specs.Prelude.{◌≡◌, ℕ, ◌-◌, List, Result, Ok, Option, Some, option_map, slice_get}
+use Rattle.std.specs.Prelude.{◌≡◌, ℕ, ◌-◌, List, Result, Option, option_map, slice_get}
 use Rattle.std.specs.List.{AllZip}
 use Rattle.grid.specs.Board.{Board}
 use Rattle.grid.specs.declared.fault.LevelFault.{LevelFault}
@@ -16,11 +16,8 @@ pub record IsListed (listed : Listed) (found : Found) : Type 0 where
 abbrev pub IsLevelListing : List ℕ → List Listed → Type 0
 IsLevelListing bytes listing = (founds : List Found) × IsCollection bytes founds × AllZip IsListed listing founds
 
--- level n of a listing, counted from 1; none where there are fewer
-abbrev pub level_at : List Listed → ℕ → Option (Result Board LevelFault)
-level_at listing n = option_map (λ listed. listed.board) (slice_get listing (n - 1))
-
--- level n of the collection is lawful and has this board
-abbrev pub IsLevelOf : List ℕ → ℕ → Board → Type 0
-IsLevelOf bytes n board = (listing : List Listed) × IsLevelListing bytes listing ×
-    (level_at listing n ≡ Some (Ok board))
+-- level n of the collection of these bytes, counted from 1 and judged; none if the collection has fewer levels
+pub record IsLevelAt (bytes : List ℕ) (n : ℕ) (level : Option (Result Board LevelFault)) : Type 0 where
+  pub listing : List Listed
+  pub lists : IsLevelListing bytes listing
+  pub is : level ≡ option_map (λ listed. listed.board) (slice_get listing (n - 1))

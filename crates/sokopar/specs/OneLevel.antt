@@ -9,7 +9,7 @@ use Rattle.judging.specs.declared.judgement.Judgement.{Judgement}
 use Rattle.judging.specs.declared.judgement.Judgement.TheVariants as is
 use Rattle.judging.specs.declared.judgement.Settings.{Settings}
 use Rattle.sokopar.specs.Judging.{IsJudgedOn}
-use Rattle.sokopar.specs.Listing.{Listed, IsLevelListing, level_at}
+use Rattle.sokopar.specs.Listing.{IsLevelAt}
 use Rattle.sokopar.specs.Report.{Report, no_level}
 
 -- the report of a judgement: its words and, as a second line, the solution that was found
@@ -24,7 +24,7 @@ abbrev pub IsWhole : Judgement → Type 0
 IsWhole (is.OutOfMemory given bound) = ⊥
 IsWhole judgement = ⊤
 
--- the report on level n of a listing and the text of a given solution: that there is no such level, or that of a right
+-- the report on a level with number n and the text of a given solution: that there is no such level, or that of a right
 -- judgement
 abbrev pub ReportsJudged : Bool → Settings → ℕ → Option (Result Board LevelFault) → Option (List ℕ) → Report → Type 0
 ReportsJudged given set n None text report = (text ≡ None) × (report ≡ no_level n)
@@ -35,5 +35,4 @@ ReportsJudged given set n (Some board) text report =
 -- the report of `best` or, with a given solution, of `prove` on level n of these bytes
 abbrev pub IsLevelReport : Bool → Settings → ℕ → List ℕ → Option (List ℕ) → Report → Type 0
 IsLevelReport given set n bytes text report =
-    (listing : List Listed) × IsLevelListing bytes listing ×
-    ReportsJudged given set n (level_at listing n) text report
+    (level : Option (Result Board LevelFault)) × IsLevelAt bytes n level × ReportsJudged given set n level text report

@@ -1,13 +1,10 @@
 -- What the program writes, and its exit status.
-use Rattle.std.specs.Prelude.{◌<◌, ◌≤◌, Bool, true, false}
-use Rattle.std.specs.Prelude.{◌≡◌, ℕ, suc, ◌==◌, if◌then◌else◌, List, [], ◌∷◌, ◌++◌, length, count_by, is_ok, Result}
-use Rattle.std.specs.Prelude.{Ok, Err, Option, Some, None, codes}
-use Rattle.std.specs.Prelude.{decimal, ◌⊎◌}
+use Rattle.std.specs.Prelude.{◌≡◌, ℕ, Bool, suc, ◌==◌, if◌then◌else◌, List, [], ◌∷◌, ◌++◌, length, count_by, is_ok}
+use Rattle.std.specs.Prelude.{Result, Ok, Err, Option, Some, None, codes, decimal, ◌⊎◌}
 use Rattle.grid.specs.Board.{Board}
 use Rattle.grid.specs.Lawful.{row_count, box_count}
 use Rattle.grid.specs.declared.fault.LevelFault.{LevelFault}
 use Rattle.grid.specs.declared.fault.LevelFault.TheVariants as level
-use Rattle.grid.specs.declared.limits.TheConstants.{MAX_BOXES}
 use Rattle.grid.specs.declared.moves.Letter.{Letter}
 use Rattle.lurd.specs.Text.{IsText, HasTextFault}
 use Rattle.lurd.specs.Verdict.{IsVerdict}
@@ -17,7 +14,7 @@ use Rattle.lurd.specs.declared.verdict.Verdict.{Verdict}
 use Rattle.lurd.specs.declared.verdict.Verdict.TheVariants as verdict
 use Rattle.xsb.specs.Written.{written}
 pub use Rattle.judging.specs.Words.{counts_words, fault_words, line, text_fault_words, verdict_words}
-use Rattle.sokopar.specs.Listing.{Listed, IsLevelListing, level_at}
+use Rattle.sokopar.specs.Listing.{Listed, IsLevelAt, IsLevelListing}
 
 -- what is written, byte by byte, and the exit status: 0 for good, 4 if a search passed its limit, 1 otherwise
 pub record Report : Type 0 where
@@ -29,19 +26,9 @@ abbrev pub after_line : List ℕ → List ℕ
 after_line [] = []
 after_line (b ∷ bytes) = if b == 10 then bytes else after_line bytes
 
--- a report without its first line: of a search the solution alone, if it has one
-abbrev pub without_first_line : Report → Report
-without_first_line report = record { text = after_line report.text; status = report.status }
-
--- what is written of the report on what was read: with the flag the report without its first line
-abbrev pub Written : {A : Type 0} → Bool → (A → Report → Type 0) → A → Report → Type 0
-Written false IsReport read report = IsReport read report
-Written true IsReport read report = (whole : Report) × IsReport read whole × (report ≡ without_first_line whole)
-
--- the same of the report on a collection and a solution
-abbrev pub WrittenOfTwo : Bool → (List ℕ → Option (List ℕ) → Report → Type 0) → List ℕ → Option (List ℕ) → Report →
-    Type 0
-WrittenOfTwo lurd IsReport bytes = Written lurd (IsReport bytes)
+-- what is written of a report: with the flag all but its first line, of a search the solution alone
+abbrev pub written_of : Bool → Report → List ℕ
+written_of lurd report = if lurd then after_line report.text else report.text
 
 -- a report of one line
 abbrev pub one_line : List ℕ → ℕ → Report
@@ -91,11 +78,16 @@ no_level n = one_line (codes "no level " ++ decimal n) 1
 abbrev pub fault_report : LevelFault → Report
 fault_report fault = one_line (fault_words fault) 1
 
--- the report on level n of a listing: that there is none, the fault of its board, or the report that the level has
+-- the report on a level with number n: that there is none, the fault of its board, or the report that the level has
 abbrev pub ReportsOn : (Board → Report → Type 0) → ℕ → Option (Result Board LevelFault) → Report → Type 0
 ReportsOn Has n None report = report ≡ no_level n
 ReportsOn Has n (Some (Err fault)) report = report ≡ fault_report fault
 ReportsOn Has n (Some (Ok board)) report = Has board report
+
+-- the report on level n of these bytes
+abbrev pub IsReportOn : (Board → Report → Type 0) → ℕ → List ℕ → Report → Type 0
+IsReportOn Has n bytes report =
+    (level : Option (Result Board LevelFault)) × IsLevelAt bytes n level × ReportsOn Has n level report
 
 -- the report of showing a level: its rows
 abbrev pub IsShown : Board → Report → Type 0
@@ -121,7 +113,7 @@ IsReplayOf board solution report =
     (report ≡ verdict_report v)) ⊎
     ((fault : LurdFault) × HasTextFault solution fault × (report ≡ text_fault_report fault))
 
--- the report on level n of a listing and a solution, which is read exactly where the level is lawful
+-- the report on a level with number n and a solution, which is read exactly where the level is lawful
 abbrev pub ReportsOnText : (Board → List ℕ → Report → Type 0) → ℕ → Option (Result Board LevelFault) → Option (List ℕ)
     → Report → Type 0
 ReportsOnText Has n None solution report = (solution ≡ None) × (report ≡ no_level n)
@@ -132,22 +124,16 @@ ReportsOnText Has n (Some (Ok board)) solution report = (read : List ℕ) × (so
 abbrev pub too_many_boxes : Report
 too_many_boxes = one_line (codes "too many boxes") 1
 
--- the report of a search on a lawful level: that its boxes are too many, or what the search finds
-abbrev pub IsSearchOf : (Board → Report → Type 0) → Board → Report → Type 0
-IsSearchOf Finds board report =
-    ((MAX_BOXES < box_count board) × (report ≡ too_many_boxes)) ⊎ ((box_count board ≤ MAX_BOXES) × Finds board report)
-
 -- the report of checking these bytes
 abbrev pub IsCheckReport : List ℕ → Report → Type 0
 IsCheckReport bytes report = (listing : List Listed) × IsLevelListing bytes listing × (report ≡ check_report listing)
 
 -- the report of showing level n of these bytes
 abbrev pub IsShowReport : ℕ → List ℕ → Report → Type 0
-IsShowReport n bytes report =
-    (listing : List Listed) × IsLevelListing bytes listing × ReportsOn IsShown n (level_at listing n) report
+IsShowReport n bytes report = IsReportOn IsShown n bytes report
 
 -- the report of replaying on level n of these bytes a solution, if one was read
 abbrev pub IsReplayReport : ℕ → List ℕ → Option (List ℕ) → Report → Type 0
 IsReplayReport n bytes solution report =
-    (listing : List Listed) × IsLevelListing bytes listing ×
-    ReportsOnText IsReplayOf n (level_at listing n) solution report
+    (level : Option (Result Board LevelFault)) × IsLevelAt bytes n level ×
+    ReportsOnText IsReplayOf n level solution report

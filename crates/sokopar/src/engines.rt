@@ -1,9 +1,11 @@
-ghost use Rattle.std.specs.Prelude.{◌≡◌, ◌≤◌};
+#![tactic(auto, using(crate::proofs::Reading::stops_after))]
+
+ghost use Rattle.std.specs.Prelude.{◌≡◌, ◌≤◌, false};
 ghost use Rattle.crew.specs.Configured.{IsWithinLimits};
 ghost use Rattle.sokopar.specs.DeadMap.{IsDeadReport};
 ghost use Rattle.sokopar.specs.OneReport.{IsOnlySolveReport};
-ghost use Rattle.sokopar.specs.Report.{IsCheckReport, IsReplayReport, IsShowReport, Written};
-ghost use Rattle.sokopar.specs.Runs.{Runs, RunsInTwo};
+ghost use Rattle.sokopar.specs.Report.{IsCheckReport, IsReplayReport, IsShowReport};
+ghost use Rattle.sokopar.specs.Runs.{Reads, ReadsBeside, Runs, WithSolution};
 ghost use Rattle.sokopar.specs.Showing.{IsRangeReport};
 
 use crate::check::check_report;
@@ -27,13 +29,13 @@ use std::thread::Threads;
 /// Fails with [`RunFault::Read`] if a read fails, with [`RunFault::TooLong`] for more than [`MAX_FILE`](xsb::MAX_FILE)
 /// bytes, and with [`RunFault::OutOfMemory`]; then it has written nothing. Fails with [`RunFault::Write`] if a write
 /// fails; then it has written a beginning of the report.
-#[tactic(auto, using(crate::proofs::Reading::stops_after))]
 pub fn run_check<S: Source, K: Sink>(
     alloc: Global,
     source: &mut S,
     sink: &mut K,
 ) -> Result<u8, RunFault>
-    ensures { Runs IsCheckReport (S.seen source.old) (S.seen source.new) (K.seen sink.old) (K.seen sink.new) result }
+    ensures { Runs (Reads (S.seen source.old) (S.seen source.new)) false IsCheckReport
+        (K.seen sink.old) (K.seen sink.new) result }
 {
     let bytes = read_whole(alloc, source)?;
     let report = check_report(alloc, bytes.as_slice())?;
@@ -42,7 +44,6 @@ pub fn run_check<S: Source, K: Sink>(
 
 /// Shows the level with a number, counted from 1, in plain rows. Returns the exit status: 0 if there is such a level
 /// and it is lawful, otherwise 1. The faults are those of [`run_check`].
-#[tactic(auto, using(crate::proofs::Reading::stops_after))]
 pub fn run_show<S: Source, K: Sink>(
     alloc: Global,
     source: &mut S,
@@ -50,8 +51,8 @@ pub fn run_show<S: Source, K: Sink>(
     sink: &mut K,
 ) -> Result<u8, RunFault>
     requires { 1 ≤ number }
-    ensures { Runs (IsShowReport number) (S.seen source.old) (S.seen source.new) (K.seen sink.old) (K.seen sink.new)
-        result }
+    ensures { Runs (Reads (S.seen source.old) (S.seen source.new)) false (IsShowReport number)
+        (K.seen sink.old) (K.seen sink.new) result }
 {
     let bytes = read_whole(alloc, source)?;
     let report = show_in(alloc, bytes.as_slice(), number)?;
@@ -62,7 +63,6 @@ pub fn run_show<S: Source, K: Sink>(
 /// rows and an empty line. A faulty level is a comment with the line of [`run_check`](crate::run_check). Returns the exit
 /// status: 0 if they are lawful, else 1. If no level has a number of at least `from`, it writes that there is no such
 /// level, and returns 1. The faults are those of [`run_check`](crate::run_check).
-#[tactic(auto, using(crate::proofs::Reading::stops_after))]
 pub fn run_show_range<S: Source, K: Sink>(
     alloc: Global,
     source: &mut S,
@@ -70,8 +70,8 @@ pub fn run_show_range<S: Source, K: Sink>(
     to: u32,
     sink: &mut K,
 ) -> Result<u8, RunFault>
-    ensures { Runs (IsRangeReport from to) (S.seen source.old) (S.seen source.new) (K.seen sink.old) (K.seen sink.new)
-        result }
+    ensures { Runs (Reads (S.seen source.old) (S.seen source.new)) false (IsRangeReport from to)
+        (K.seen sink.old) (K.seen sink.new) result }
 {
     let bytes = read_whole(alloc, source)?;
     let report = show_range(alloc, bytes.as_slice(), from, to)?;
@@ -80,7 +80,6 @@ pub fn run_show_range<S: Source, K: Sink>(
 
 /// Shows walls, goals and dead squares of a level of a collection, counted from 1. Returns the exit status: 0 if there
 /// is such a level and it is lawful, otherwise 1. The faults are those of [`run_check`].
-#[tactic(auto, using(crate::proofs::Reading::stops_after))]
 pub fn run_dead<S: Source, K: Sink>(
     alloc: Global,
     source: &mut S,
@@ -88,8 +87,8 @@ pub fn run_dead<S: Source, K: Sink>(
     sink: &mut K,
 ) -> Result<u8, RunFault>
     requires { 1 ≤ number }
-    ensures { Runs (IsDeadReport number) (S.seen source.old) (S.seen source.new) (K.seen sink.old) (K.seen sink.new)
-        result }
+    ensures { Runs (Reads (S.seen source.old) (S.seen source.new)) false (IsDeadReport number)
+        (K.seen sink.old) (K.seen sink.new) result }
 {
     let bytes = read_whole(alloc, source)?;
     let report = dead_in(alloc, bytes.as_slice(), number)?;
@@ -99,7 +98,6 @@ pub fn run_dead<S: Source, K: Sink>(
 /// Replays a solution in LURD text on a level of a collection, counted from 1. Returns the exit status: 0 if the
 /// solution solves the level, otherwise 1. It reads the collection first, and the solution only if the level is lawful.
 /// The faults are those of [`run_check`].
-#[tactic(auto, using(crate::proofs::Reading::stops_after))]
 pub fn run_replay<S: Source, T: Source, K: Sink>(
     alloc: Global,
     source: &mut S,
@@ -108,8 +106,9 @@ pub fn run_replay<S: Source, T: Source, K: Sink>(
     sink: &mut K,
 ) -> Result<u8, RunFault>
     requires { 1 ≤ number }
-    ensures { RunsInTwo (IsReplayReport number) number (S.seen source.old) (S.seen source.new) (T.seen solution.old)
-        (T.seen solution.new)
+    ensures { Runs
+        (ReadsBeside number (S.seen source.old) (S.seen source.new) (T.seen solution.old) (T.seen solution.new))
+        false (WithSolution (IsReplayReport number) (T.seen solution.old) (T.seen solution.new))
         (K.seen sink.old) (K.seen sink.new) result }
 {
     let bytes = read_whole(alloc, source)?;
@@ -132,8 +131,8 @@ pub fn run_solve<R: Threads + Wait + Sync, S: Source, K: Sink>(
 ) -> Result<u8, RunFault>
     requires number { 1 ≤ number }
     requires limits { IsWithinLimits config }
-    ensures { Runs (IsOnlySolveReport config.cap config.limit number) (S.seen source.old) (S.seen source.new)
-        (K.seen sink.old) (K.seen sink.new) result }
+    ensures { Runs (Reads (S.seen source.old) (S.seen source.new))
+        false (IsOnlySolveReport config.cap config.limit number) (K.seen sink.old) (K.seen sink.new) result }
 {
     let request = SolveRequest {
         number,
@@ -154,7 +153,6 @@ pub struct SolveRequest {
 
 /// Solves a level as [`run_solve`] does, and calls a gate after each event of a worker: the gate decides whether that
 /// worker goes on. The report is the same for every gate.
-#[tactic(auto, using(crate::proofs::Reading::stops_after, crate::proofs::Written::run_written))]
 pub fn run_solve_with<R: Threads + Wait + Sync, S: Source, G: Gate + Sync, K: Sink>(
     rt: &R,
     alloc: Global,
@@ -165,8 +163,9 @@ pub fn run_solve_with<R: Threads + Wait + Sync, S: Source, G: Gate + Sync, K: Si
 ) -> Result<u8, RunFault>
     requires number { 1 ≤ request.number }
     requires limits { IsWithinLimits request.config }
-    ensures { Runs (Written request.lurd (IsOnlySolveReport request.config.cap request.config.limit request.number))
-        (S.seen source.old) (S.seen source.new) (K.seen sink.old) (K.seen sink.new) result }
+    ensures { Runs (Reads (S.seen source.old) (S.seen source.new))
+        request.lurd (IsOnlySolveReport request.config.cap request.config.limit request.number)
+        (K.seen sink.old) (K.seen sink.new) result }
 {
     let SolveRequest {
         number,

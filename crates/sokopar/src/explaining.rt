@@ -1,5 +1,6 @@
+ghost use Rattle.std.specs.Prelude.{false};
 ghost use Rattle.sokopar.specs.Explaining.{IsExplainReport};
-ghost use Rattle.sokopar.specs.Runs.{Runs};
+ghost use Rattle.sokopar.specs.Runs.{Reads, Runs};
 
 use crate::explain::explain_in;
 use crate::fault::RunFault;
@@ -19,8 +20,8 @@ pub fn run_explain<S: Source, K: Sink>(
     number: Option<u32>,
     sink: &mut K,
 ) -> Result<u8, RunFault>
-    ensures { Runs (IsExplainReport number) (S.seen source.old) (S.seen source.new) (K.seen sink.old)
-        (K.seen sink.new) result }
+    ensures { Runs (Reads (S.seen source.old) (S.seen source.new)) false (IsExplainReport number)
+        (K.seen sink.old) (K.seen sink.new) result }
 {
     let bytes = read_whole(alloc, source)?;
     let report = explain_in(alloc, bytes.as_slice(), number)?;

@@ -10,10 +10,10 @@ use crate::compare::compare;
 use crate::fault::RunFault;
 use crate::reads::read_whole;
 use crate::source::Source;
+use crate::watch::Watch;
 use grid::{Level, LevelFault, MAX_BOXES, Moves};
 use judging::{Counts, Judgement, Settings};
 use lurd::{LurdFault, Verdict, parse, replay};
-use prover::Progress;
 use std::alloc::{AllocError, Global};
 use std::thread::Threads;
 
@@ -32,14 +32,14 @@ pub(crate) fn stopped_by(fault: RunFault) -> Judgement
 
 /// The judgement of moves by a search.
 #[tactic(auto, using(crate::proofs::Judging::of_verdict))]
-fn prove_moves<R: Threads + Sync, P: Progress>(
+fn prove_moves<R: Threads + Sync, P: Watch>(
     rt: &R,
     alloc: Global,
     level: &Level,
     moves: Moves,
     workers: u8,
     settings: Settings,
-    progress: &mut P,
+    watch: &mut P,
 ) -> Result<Judgement, AllocError>
     requires bound { length moves ≤ MAX_MOVES }
     requires uncapped { settings.cap ≡ None }
@@ -58,7 +58,7 @@ fn prove_moves<R: Threads + Sync, P: Progress>(
             if level.boxes() > MAX_BOXES {
                 return Ok(Judgement::TooManyBoxes(Some(given)));
             }
-            let judgement = compare(rt, alloc, level, given, moves, workers, settings, progress);
+            let judgement = compare(rt, alloc, level, given, moves, workers, settings, watch);
             Ok(judgement)
         }
         Verdict::Unsolved { .. } => Ok(Judgement::Replayed(verdict)),
@@ -69,7 +69,7 @@ fn prove_moves<R: Threads + Sync, P: Progress>(
 
 /// The judgement of moves, by a search or by the rules alone.
 #[tactic(auto, using(crate::proofs::Judging::by_search, crate::proofs::Judging::by_replay))]
-fn judge_moves<R: Threads + Sync, P: Progress>(
+fn judge_moves<R: Threads + Sync, P: Watch>(
     rt: &R,
     alloc: Global,
     level: &Level,
@@ -77,14 +77,14 @@ fn judge_moves<R: Threads + Sync, P: Progress>(
     proves: bool,
     workers: u8,
     settings: Settings,
-    progress: &mut P,
+    watch: &mut P,
 ) -> Result<Judgement, AllocError>
     requires bound { length moves ≤ MAX_MOVES }
     requires uncapped { settings.cap ≡ None }
     ensures { IfOk result (λ judgement. IsJudgedGiven proves settings level.now moves judgement) }
 {
     if proves {
-        return prove_moves(rt, alloc, level, moves, workers, settings, progress);
+        return prove_moves(rt, alloc, level, moves, workers, settings, watch);
     }
     let verdict = replay(alloc, level, &moves)?;
     Ok(Judgement::Replayed(verdict))
@@ -103,7 +103,7 @@ fn bad_text(fault: LurdFault) -> Result<Judgement, AllocError>
 
 /// The judgement of a text on a lawful level.
 #[tactic(auto, using(crate::proofs::Judging::of_text, crate::proofs::Judging::of_fault))]
-fn judge_text<R: Threads + Sync, P: Progress>(
+fn judge_text<R: Threads + Sync, P: Watch>(
     rt: &R,
     alloc: Global,
     level: &Level,
@@ -111,20 +111,20 @@ fn judge_text<R: Threads + Sync, P: Progress>(
     proves: bool,
     workers: u8,
     settings: Settings,
-    progress: &mut P,
+    watch: &mut P,
 ) -> Result<Judgement, AllocError>
     requires uncapped { settings.cap ≡ None }
     ensures { IfOk result (λ judgement. IsJudgedText proves settings level.now text.now judgement) }
 {
     match parse(alloc, text) {
-        Ok(moves) => judge_moves(rt, alloc, level, moves, proves, workers, settings, progress),
+        Ok(moves) => judge_moves(rt, alloc, level, moves, proves, workers, settings, watch),
         Err(fault) => bad_text(fault),
     }
 }
 
 /// The judgement of the solution of a lawful level. It reads the solution to its end.
 #[tactic(auto, using(crate::proofs::Reading::stops_after))]
-fn judge_lawful<R: Threads + Sync, T: Source, P: Progress>(
+fn judge_lawful<R: Threads + Sync, T: Source, P: Watch>(
     rt: &R,
     alloc: Global,
     level: &Level,
@@ -132,16 +132,17 @@ fn judge_lawful<R: Threads + Sync, T: Source, P: Progress>(
     workers: u8,
     settings: Settings,
     solution: &mut T,
-    progress: &mut P,
+    watch: &mut P,
 ) -> Result<Judgement, RunFault>
     ensures ok { IfOk result (λ judgement. (text : List ℕ) ×
         ReadsWhole (T.seen solution.old) (T.seen solution.new) text ×
         IsJudgedText proves (uncapped settings) level.now text judgement) }
     ensures err { IfErr result (Stops (T.seen solution.old) (T.seen solution.new)) }
 {
-    let Settings { limit, moves, .. } = settings;
-    let cap = None;
-    let settings = Settings { cap, limit, moves };
+    let settings = Settings {
+        cap: None,
+        ..settings
+    };
     let text = read_whole(alloc, solution)?;
     Ok(judge_text(
         rt,
@@ -151,14 +152,14 @@ fn judge_lawful<R: Threads + Sync, T: Source, P: Progress>(
         proves,
         workers,
         settings,
-        progress,
+        watch,
     )?)
 }
 
 /// The judgement of a board and its solution, which is proved by a search or only replayed. It reads the solution to its
 /// end if the board is lawful, and not otherwise.
 #[tactic(auto, using(crate::proofs::Judged::on_board))]
-pub(crate) fn judge_given<R: Threads + Sync, T: Source, P: Progress>(
+pub(crate) fn judge_given<R: Threads + Sync, T: Source, P: Watch>(
     rt: &R,
     alloc: Global,
     board: &Result<Level, LevelFault>,
@@ -166,7 +167,7 @@ pub(crate) fn judge_given<R: Threads + Sync, T: Source, P: Progress>(
     workers: u8,
     settings: Settings,
     solution: &mut T,
-    progress: &mut P,
+    watch: &mut P,
 ) -> Result<Judgement, RunFault>
     ensures ok { IfOk result (λ judgement. (text : Option (List ℕ)) ×
         ReadsIfSome (T.seen solution.old) (T.seen solution.new) text ×
@@ -175,9 +176,7 @@ pub(crate) fn judge_given<R: Threads + Sync, T: Source, P: Progress>(
         Stops (T.seen solution.old) (T.seen solution.new) fault) }
 {
     match board {
-        Ok(level) => judge_lawful(
-            rt, alloc, level, proves, workers, settings, solution, progress,
-        ),
+        Ok(level) => judge_lawful(rt, alloc, level, proves, workers, settings, solution, watch),
         Err(fault) => Ok(Judgement::Faulty(*fault)),
     }
 }

@@ -1,10 +1,10 @@
 //! Reports on the levels of a collection, which are written line by line.
-ghost use Rattle.std.specs.Prelude.{◌≡◌, ◌≤◌, ◌++◌, ◌∷◌, [], length, IfOk, IfErr, OnOk, MatchBool, codes, option_map};
+ghost use Rattle.std.specs.Prelude.{◌≡◌, ◌≤◌, ◌++◌, ◌∷◌, [], length, Err, IfOk, IfErr, OnOk, MatchBool, codes, option_map};
 ghost use Rattle.sokopar.specs.Entries.{listed_of};
-ghost use Rattle.sokopar.specs.Levels.{BeginsReport, EndsWith, IsBetween, IsLine, IsReport, last_line, last_status};
-ghost use Rattle.sokopar.specs.Runs.{WritesPart, WritesWhole};
+ghost use Rattle.sokopar.specs.Levels.{EndsWith, IsBetween, IsLine, IsReport, last_line, last_status};
+ghost use Rattle.sokopar.specs.Runs.{WritesByLine, WritesPart, WritesWhole};
 ghost use Rattle.judging.specs.Words.{line};
-ghost use Rattle.sokopar.specs.inside.Sending.{SendsByLine, SendsLevels, StopsByLine};
+ghost use Rattle.sokopar.specs.inside.Sending.{Begins, SendsLevels};
 
 use crate::fault::RunFault;
 use crate::judge::Judge;
@@ -35,6 +35,22 @@ fn send_line<K: Sink>(line: &[u8], sink: &mut K) -> Result<(), RunFault>
         Ok(()) => Ok(()),
         Err(_) => Err(RunFault::Write),
     }
+}
+
+/// The number of the last level of a range: that of the collection, if it ends before. `None` if out of memory.
+fn last_of(alloc: Global, bytes: &[u8], to: u32) -> Option<u32> {
+    let mut collection = Collection::of(bytes).ok()?;
+    let mut count: u32 = 0;
+    'boards: while count < to {
+        let Ok(next) = collection.next_board(alloc) else {
+            return None;
+        };
+        if next.is_none() {
+            break;
+        }
+        count += 1;
+    }
+    Some(count)
 }
 
 /// Judges a level. Returns its line, and how it counts.
@@ -91,8 +107,8 @@ fn send_levels<R: Threads + Sync, J: Judge, P: Watch, K: Sink>(
     requires none { kinds.old.items ≡ [] }
     ensures ok { IfOk result (λ count. SendsLevels (IsLine (J.is_right judge.now) request) request bytes.now
         count kinds.new.items (K.seen sink.old) (K.seen sink.new)) }
-    ensures err { IfErr result (StopsByLine
-        (BeginsReport (IsLine (J.is_right judge.now) request) request bytes.now) (K.seen sink.old) (K.seen sink.new)) }
+    ensures err { IfErr result (λ fault. WritesByLine (Begins (IsLine (J.is_right judge.now) request) request bytes.now)
+        (K.seen sink.old) (K.seen sink.new) (Err fault)) }
 {
     let Ok(mut collection) = Collection::of(bytes) else {
         unreachable!();
@@ -174,6 +190,7 @@ fn end_of(
 
 /// Writes the report on the levels of a range: the line of each as soon as it is known. `folder` is the path of the folder
 /// of their solutions, if these are given. Returns the exit status.
+#[tactic(auto, using(crate::proofs::ByLine::stopped_levels))]
 pub(crate) fn send_report<R: Threads + Sync, J: Judge, P: Watch, K: Sink>(
     rt: &R,
     judge: &J,
@@ -185,11 +202,15 @@ pub(crate) fn send_report<R: Threads + Sync, J: Judge, P: Watch, K: Sink>(
     sink: &mut K,
 ) -> Result<u8, RunFault>
     requires { length bytes.now ≤ MAX_FILE }
-    ensures { SendsByLine
+    ensures { WritesByLine
         (IsReport (IsLine (J.is_right judge.now) request) (option_map (λ path. path.now) folder.entry) request bytes.now)
-        (BeginsReport (IsLine (J.is_right judge.now) request) request bytes.now)
         (K.seen sink.old) (K.seen sink.new) result }
 {
+    if watch.wants_last() {
+        if let Some(last) = last_of(alloc, bytes, request.to) {
+            watch.end_at(last);
+        }
+    }
     let mut kinds = Vec::new(alloc);
     let levels = send_levels(rt, judge, alloc, bytes, request, &mut kinds, watch, sink)?;
     let end = end_of(alloc, folder, request, levels, kinds.as_slice())?;

@@ -45,6 +45,7 @@ mod remark;
 mod replay;
 mod report;
 mod search;
+mod searches;
 mod sentences;
 mod show;
 mod showing;
@@ -65,11 +66,11 @@ pub use fault::RunFault;
 pub use folder::Folder;
 pub use judging::Settings;
 pub use laws::{one_report, printed_solution_replays, shown_levels_read_back, solution_replays};
-pub use prover::Progress;
+pub use prover::{Progress, Unheard};
 pub use proving::{
     LevelRequest, LevelsRequest, run_best, run_best_collection, run_prove, run_prove_collection,
 };
 pub use sink::{Sink, Writer};
 pub use source::{Reader, Source};
 pub use trail::Failed;
-pub use watch::{Unwatched, Watch};
+pub use watch::Watch;

@@ -1,5 +1,5 @@
-ghost use Rattle.std.specs.Prelude.{◌≡◌, List, ◌≤◌, length, IfOk};
-ghost use Rattle.sokopar.specs.Listing.{Listed, IsLevelListing, level_at};
+ghost use Rattle.std.specs.Prelude.{◌≤◌, length, IfOk};
+ghost use Rattle.sokopar.specs.Listing.{IsLevelAt};
 
 use grid::{Level, LevelFault};
 use std::alloc::{AllocError, Global};
@@ -13,8 +13,7 @@ pub(crate) type Chosen = Option<Result<Level, LevelFault>>;
 pub(crate) fn level_of(alloc: Global, bytes: &[u8], number: u32) -> Result<Chosen, AllocError>
     requires number { 1 ≤ number }
     requires bound { length bytes.now ≤ MAX_FILE }
-    ensures { IfOk result (λ chosen. (listing : List Listed) × IsLevelListing bytes.now listing ×
-        (chosen ≡ level_at listing number)) }
+    ensures { IfOk result (IsLevelAt bytes.now number) }
 {
     let Ok(mut collection) = Collection::of(bytes) else {
         unreachable!();

@@ -1,7 +1,7 @@
 //! The reports of `best` and `prove` on one level.
-ghost use Rattle.std.specs.Prelude.{◌≡◌, ◌⊎◌, ◌≤◌, ℕ, List, Option, None, length, IfOk, IfErr, true, false};
+ghost use Rattle.std.specs.Prelude.{◌≡◌, Ok, Some, ◌⊎◌, ◌≤◌, ℕ, List, Option, None, length, IfOk, IfErr, true, false};
 ghost use Rattle.grid.specs.Board.{Board};
-ghost use Rattle.sokopar.specs.Listing.{IsLevelOf};
+ghost use Rattle.sokopar.specs.Listing.{IsLevelAt};
 ghost use Rattle.sokopar.specs.OneLevel.{IsLevelReport, IsWhole, level_report};
 ghost use Rattle.sokopar.specs.Runs.{ReadsIfSome, Stops};
 
@@ -13,8 +13,8 @@ use crate::report::Report;
 use crate::search::judge_board;
 use crate::show::no_level;
 use crate::source::Source;
+use crate::watch::Watch;
 use judging::{Judgement, Settings, Text, put_judgement, put_letters_line};
-use prover::Progress;
 use std::alloc::{AllocError, Global};
 use std::thread::Threads;
 use xsb::MAX_FILE;
@@ -34,13 +34,12 @@ fn report_of(alloc: Global, settings: Settings, judgement: &Judgement) -> Result
 }
 
 /// The report of `best` on level N of a collection.
-#[tactic(auto, using(crate::proofs::Reporting::judged))]
-pub(crate) fn best_in<R: Threads + Sync, P: Progress>(
+pub(crate) fn best_in<R: Threads + Sync, P: Watch>(
     rt: &R,
     alloc: Global,
     bytes: &[u8],
     request: LevelRequest,
-    progress: &mut P,
+    watch: &mut P,
 ) -> Result<Report, AllocError>
     requires number { 1 ≤ request.number }
     requires bound { length bytes.now ≤ MAX_FILE }
@@ -50,22 +49,22 @@ pub(crate) fn best_in<R: Threads + Sync, P: Progress>(
     match level_of(alloc, bytes, request.number)? {
         None => no_level(alloc, request.number),
         Some(board) => {
-            let judgement = judge_board(rt, alloc, &board, request.workers, settings, progress);
-            report_of(alloc, settings, &judgement)
+            let judgement = judge_board(rt, alloc, &board, request.workers, settings, watch);
+            let report = report_of(alloc, settings, &judgement)?;
+            Ok(report)
         }
     }
 }
 
 /// The report of `prove` on level N of a collection. It reads the solution to its end if the level is lawful, and not
 /// otherwise.
-#[tactic(auto, using(crate::proofs::Reporting::judged_given))]
-pub(crate) fn prove_in<R: Threads + Sync, T: Source, P: Progress>(
+pub(crate) fn prove_in<R: Threads + Sync, T: Source, P: Watch>(
     rt: &R,
     alloc: Global,
     bytes: &[u8],
     request: LevelRequest,
     solution: &mut T,
-    progress: &mut P,
+    watch: &mut P,
 ) -> Result<Report, RunFault>
     requires number { 1 ≤ request.number }
     requires bound { length bytes.now ≤ MAX_FILE }
@@ -73,7 +72,7 @@ pub(crate) fn prove_in<R: Threads + Sync, T: Source, P: Progress>(
         ReadsIfSome (T.seen solution.old) (T.seen solution.new) text
         × IsLevelReport true request.settings request.number bytes.now text report) }
     ensures err { IfErr result (λ fault. ((fault ≡ RunFault.OutOfMemory) × (T.seen solution.new ≡ T.seen solution.old))
-        ⊎ ((board : Board) × IsLevelOf bytes.now request.number board ×
+        ⊎ ((board : Board) × IsLevelAt bytes.now request.number (Some (Ok board)) ×
         Stops (T.seen solution.old) (T.seen solution.new) fault)) }
 {
     let workers = request.workers;
@@ -82,7 +81,7 @@ pub(crate) fn prove_in<R: Threads + Sync, T: Source, P: Progress>(
         None => Ok(no_level(alloc, request.number)?),
         Some(board) => {
             let judgement = judge_given(
-                rt, alloc, &board, true, workers, settings, solution, progress,
+                rt, alloc, &board, true, workers, settings, solution, watch,
             )?;
             Ok(report_of(alloc, settings, &judgement)?)
         }

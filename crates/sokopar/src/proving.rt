@@ -1,11 +1,12 @@
 //! The engines that look for a solution with the fewest pushes. Their reports are proved to be right, but not to be the
 //! only right ones: several solutions may have the fewest pushes, and a search may end at its limit with another bound.
 //! So [`one_report`](crate::one_report) does not cover them.
+#![tactic(auto, using(crate::proofs::Reading::stops_after))]
+
 ghost use Rattle.std.specs.Prelude.{◌≤◌, None, Some, true, false};
-ghost use Rattle.sokopar.specs.Levels.{BeginsReport, IsBestLine, IsProveLine, IsReport};
+ghost use Rattle.sokopar.specs.Levels.{IsBestLine, IsProveLine, IsReport};
 ghost use Rattle.sokopar.specs.OneLevel.{IsLevelReport};
-ghost use Rattle.sokopar.specs.Report.{Written, WrittenOfTwo};
-ghost use Rattle.sokopar.specs.Runs.{Runs, RunsByLine, RunsInTwo};
+ghost use Rattle.sokopar.specs.Runs.{Reads, ReadsBeside, Runs, RunsByLine, WithSolution};
 
 use crate::fault::RunFault;
 use crate::folder::Folder;
@@ -51,7 +52,6 @@ pub struct LevelsRequest {
 ///
 /// If the request wants the fewest moves, the solution has, of all with the fewest pushes, the fewest moves. If the
 /// search for these ends at its limit, it writes another solution with the fewest pushes, says so, and returns 4.
-#[tactic(auto, using(crate::proofs::Reading::stops_after, crate::proofs::Written::run_written))]
 pub fn run_best<R: Threads + Sync, S: Source, P: Watch, K: Sink>(
     rt: &R,
     alloc: Global,
@@ -61,9 +61,9 @@ pub fn run_best<R: Threads + Sync, S: Source, P: Watch, K: Sink>(
     sink: &mut K,
 ) -> Result<u8, RunFault>
     requires { 1 ≤ request.number }
-    ensures { Runs
-        (Written request.lurd (λ bytes. IsLevelReport false request.settings request.number bytes None))
-        (S.seen source.old) (S.seen source.new) (K.seen sink.old) (K.seen sink.new) result }
+    ensures { Runs (Reads (S.seen source.old) (S.seen source.new))
+        request.lurd (λ bytes. IsLevelReport false request.settings request.number bytes None)
+        (K.seen sink.old) (K.seen sink.new) result }
 {
     let bytes = read_whole(alloc, source)?;
     watch.begin(request.number);
@@ -83,7 +83,6 @@ pub fn run_best<R: Threads + Sync, S: Source, P: Watch, K: Sink>(
 /// Fails as [`run_check`](crate::run_check) does, except that it may run out of memory after some lines; then it has
 /// written these lines whole. A search that runs out of memory only ends its level. If a write fails, it has written
 /// all lines before whole, and a beginning of this one.
-#[tactic(auto, using(crate::proofs::ByLine::runs_by_line, crate::proofs::ByLine::stopped_reading))]
 pub fn run_best_collection<R: Threads + Sync, S: Source, P: Watch, K: Sink>(
     rt: &R,
     alloc: Global,
@@ -92,8 +91,8 @@ pub fn run_best_collection<R: Threads + Sync, S: Source, P: Watch, K: Sink>(
     watch: &mut P,
     sink: &mut K,
 ) -> Result<u8, RunFault>
-    ensures { RunsByLine (IsReport (IsBestLine request) None request) (BeginsReport (IsBestLine request) request)
-        (S.seen source.old) (S.seen source.new) (K.seen sink.old) (K.seen sink.new) result }
+    ensures { RunsByLine (IsReport (IsBestLine request) None request) (S.seen source.old) (S.seen source.new)
+        (K.seen sink.old) (K.seen sink.new) result }
 {
     let bytes = read_whole(alloc, source)?;
     let judge = Searcher { request };
@@ -120,7 +119,6 @@ pub fn run_best_collection<R: Threads + Sync, S: Source, P: Watch, K: Sink>(
 /// If the request wants the fewest moves, it also proves that no solution with as few pushes has fewer moves. Otherwise
 /// it writes one with the fewest pushes and, of these, the fewest moves. If the search for these ends at its limit, it
 /// says so. It returns 4 then, or 1 if it has a solution with fewer pushes, or with as many and fewer moves.
-#[tactic(auto, using(crate::proofs::Reading::stops_after, crate::proofs::Written::run_written_of_two))]
 pub fn run_prove<R: Threads + Sync, S: Source, T: Source, P: Watch, K: Sink>(
     rt: &R,
     alloc: Global,
@@ -131,10 +129,11 @@ pub fn run_prove<R: Threads + Sync, S: Source, T: Source, P: Watch, K: Sink>(
     sink: &mut K,
 ) -> Result<u8, RunFault>
     requires { 1 ≤ request.number }
-    ensures { RunsInTwo
-        (WrittenOfTwo request.lurd (IsLevelReport true request.settings request.number)) request.number
-        (S.seen source.old) (S.seen source.new) (T.seen solution.old)
-        (T.seen solution.new) (K.seen sink.old) (K.seen sink.new) result }
+    ensures { Runs
+        (ReadsBeside request.number (S.seen source.old) (S.seen source.new) (T.seen solution.old) (T.seen solution.new))
+        request.lurd (WithSolution (IsLevelReport true request.settings request.number)
+        (T.seen solution.old) (T.seen solution.new))
+        (K.seen sink.old) (K.seen sink.new) result }
 {
     let bytes = read_whole(alloc, source)?;
     watch.begin(request.number);
@@ -156,7 +155,6 @@ pub fn run_prove<R: Threads + Sync, S: Source, T: Source, P: Watch, K: Sink>(
 /// A table has a head line, a line with the columns of each of these levels, and no totals.
 ///
 /// It fails as [`run_best_collection`] does.
-#[tactic(auto, using(crate::proofs::ByLine::runs_by_line, crate::proofs::ByLine::stopped_reading))]
 pub fn run_prove_collection<R: Threads + Sync, S: Source, D: Folder, P: Watch, K: Sink>(
     rt: &R,
     alloc: Global,
@@ -166,8 +164,8 @@ pub fn run_prove_collection<R: Threads + Sync, S: Source, D: Folder, P: Watch, K
     watch: &mut P,
     sink: &mut K,
 ) -> Result<u8, RunFault>
-    ensures { RunsByLine (IsReport (IsProveLine (D.opened folder.now) D.File.seen request) (Some (D.path_seen folder.now)) request)
-        (BeginsReport (IsProveLine (D.opened folder.now) D.File.seen request) request)
+    ensures { RunsByLine
+        (IsReport (IsProveLine (D.opened folder.now) D.File.seen request) (Some (D.path_seen folder.now)) request)
         (S.seen source.old) (S.seen source.new) (K.seen sink.old) (K.seen sink.new) result }
 {
     let bytes = read_whole(alloc, source)?;

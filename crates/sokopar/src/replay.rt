@@ -1,9 +1,9 @@
-ghost use Rattle.std.specs.Prelude.{◌≡◌, ◌≢◌, ◌++◌, ◌⊎◌, ◌≤◌, ℕ, List, length, Option, OnOk, IfOk, IfErr};
+ghost use Rattle.std.specs.Prelude.{◌≡◌, Ok, Some, ◌≢◌, ◌++◌, ◌⊎◌, ◌≤◌, ℕ, List, length, Option, OnOk, IfOk, IfErr};
 ghost use Rattle.sokopar.specs.Report.{text_fault_report, text_fault_words, verdict_report};
 ghost use Rattle.sokopar.specs.Report.{verdict_status, verdict_words, IsReplayOf, IsReplayReport};
 ghost use Rattle.sokopar.specs.Runs.{ReadsIfSome, ReadsWhole, Stops};
 ghost use Rattle.grid.specs.Board.{Board};
-ghost use Rattle.sokopar.specs.Listing.{IsLevelOf};
+ghost use Rattle.sokopar.specs.Listing.{IsLevelAt};
 
 use crate::fault::RunFault;
 use crate::reads::read_whole;
@@ -104,7 +104,7 @@ pub(crate) fn replay_in<T: Source>(
         ReadsIfSome (T.seen solution.old) (T.seen solution.new) text
         × IsReplayReport number bytes.now text report) }
     ensures err { IfErr result (λ fault. ((fault ≡ RunFault.OutOfMemory) × (T.seen solution.new ≡ T.seen solution.old))
-        ⊎ ((board : Board) × IsLevelOf bytes.now number board ×
+        ⊎ ((board : Board) × IsLevelAt bytes.now number (Some (Ok board)) ×
         Stops (T.seen solution.old) (T.seen solution.new) fault)) }
 {
     match lawful_level(alloc, bytes, number)? {

@@ -1,7 +1,6 @@
-ghost use Rattle.std.specs.Prelude.{◌≡◌, Result, Ok, Err};
-ghost use Rattle.sokopar.specs.Ends.{Seen};
-ghost use Rattle.sokopar.specs.Report.{Report as View, after_line};
-ghost use Rattle.sokopar.specs.inside.Sending.{Sends, as_written};
+ghost use Rattle.std.specs.Prelude.{◌≡◌, false};
+ghost use Rattle.sokopar.specs.Report.{Report as View, after_line, written_of};
+ghost use Rattle.sokopar.specs.inside.Sending.{Sends};
 
 use crate::fault::RunFault;
 use crate::sink::Sink;
@@ -34,14 +33,14 @@ impl Report {
 
     /// Writes the report, and returns its status.
     pub(crate) fn send<K: Sink>(&self, sink: &mut K) -> Result<u8, RunFault>
-        ensures { Sends self.now (K.seen sink.old) (K.seen sink.new) result }
+        ensures { Sends (written_of false self.now) self.now.status (K.seen sink.old) (K.seen sink.new) result }
     {
         send_text(self.text.as_slice(), self.status, sink)
     }
 
     /// Writes the report, with `lurd` without its first line, and returns its status.
     pub(crate) fn send_as<K: Sink>(&self, lurd: bool, sink: &mut K) -> Result<u8, RunFault>
-        ensures { Sends (as_written lurd self.now) (K.seen sink.old) (K.seen sink.new) result }
+        ensures { Sends (written_of lurd self.now) self.now.status (K.seen sink.old) (K.seen sink.new) result }
     {
         if lurd {
             send_text(after_line(self.text.as_slice()), self.status, sink)
@@ -67,7 +66,7 @@ fn after_line(text: &[u8]) -> &[u8]
 
 /// Writes the text of a report, and returns its status.
 fn send_text<K: Sink>(text: &[u8], status: u8, sink: &mut K) -> Result<u8, RunFault>
-    ensures { Sends (record { text = text.now; status = status }) (K.seen sink.old) (K.seen sink.new) result }
+    ensures { Sends text.now status (K.seen sink.old) (K.seen sink.new) result }
 {
     match write_whole(sink, text) {
         Ok(()) => Ok(status),

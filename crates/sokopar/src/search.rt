@@ -1,5 +1,5 @@
 //! The searches of `best`, and what is known after them.
-ghost use Rattle.std.specs.Prelude.{◌≡◌, ◌≤◌, ◌<◌, false, None, IfOk, IfSome, IsTrue, length};
+ghost use Rattle.std.specs.Prelude.{◌≡◌, ◌≤◌, ◌<◌, false, None, IfOk, IfSome, IsSome, IsTrue, length};
 ghost use Rattle.grid.specs.Board.{Board};
 ghost use Rattle.grid.specs.Lawful.{box_count};
 ghost use Rattle.lurd.specs.Verdict.{IsVerdict};
@@ -7,18 +7,16 @@ ghost use Rattle.lurd.specs.declared.verdict.Verdict.TheVariants.{Solved};
 ghost use Rattle.judging.specs.declared.judgement.Counts.{Counts as CountsOf};
 ghost use Rattle.prices.specs.Fewest.{NoneHasFewer};
 ghost use Rattle.prover.specs.Outcomes.{IsOutcome};
-ghost use Rattle.prices.specs.Searching.{SomeHas};
-ghost use Rattle.shortest.specs.Improving.{IsNoWorse};
-ghost use Rattle.shortest.specs.Outcomes.{IsMovesOutcome};
 ghost use Rattle.sokopar.specs.Judging.{IsJudged, IsJudgedOn, IsOpen, IsWithinCap};
 ghost use Rattle.sokopar.specs.inside.Parts.{IsBeside, IsCompared, failed, found_known, given_known};
 
-use crate::tally::Tally;
+use crate::searches::{first_found, improved, search_fewest, search_pushes};
+use crate::watch::Watch;
 use grid::{Level, LevelFault, MAX_BOXES, Moves};
-use judging::{Counts, Judgement, Known, MovesClaim, Settings, Solution};
+use judging::{Counts, Judgement, Known, LimitKind, MovesClaim, Settings, Solution};
 use lurd::{Verdict, replay};
-use prover::{Outcome, Progress, SearchFault};
-use shortest::{Aim, MovesOutcome, first_solution, improve, search_moves};
+use prover::{Outcome, SearchFault};
+use shortest::Aim;
 use std::alloc::{AllocError, Global};
 use std::thread::Threads;
 
@@ -29,8 +27,9 @@ pub(crate) fn found_known(
     pushes: usize,
     at_least: usize,
     claim: MovesClaim,
+    limit: LimitKind,
 ) -> Known
-    ensures { result ≡ found_known given letters pushes at_least claim }
+    ensures { result ≡ found_known given letters pushes at_least claim limit }
 {
     let moves = letters.len();
     let counts = Counts { pushes, moves };
@@ -39,18 +38,25 @@ pub(crate) fn found_known(
         found: Some(Solution { letters, counts }),
         at_least,
         claim,
+        limit,
     }
 }
 
 /// What is known if no solution is found that is better than the given one.
-pub(crate) fn given_known(given: Option<Counts>, at_least: usize, claim: MovesClaim) -> Known
-    ensures { result ≡ given_known given at_least claim }
+pub(crate) fn given_known(
+    given: Option<Counts>,
+    at_least: usize,
+    claim: MovesClaim,
+    limit: LimitKind,
+) -> Known
+    ensures { result ≡ given_known given at_least claim limit }
 {
     Known {
         given,
         found: None,
         at_least,
         claim,
+        limit,
     }
 }
 
@@ -85,48 +91,28 @@ pub(crate) fn failed(given: Option<Counts>, fault: SearchFault) -> Judgement
     }
 }
 
-/// Searches for the fewest moves among the solutions with the fewest pushes, given their number.
-pub(crate) fn search_fewest(
+/// The solution, or one with as many pushes and fewer moves that a search near it finds.
+fn with_fewer<P: Watch>(
     alloc: Global,
     level: &Level,
+    moves: Moves,
     pushes: u32,
-    limit: u32,
-) -> Result<MovesOutcome, AllocError>
-    requires some { SomeHas level.now pushes }
-    requires fewest { NoneHasFewer level.now pushes }
-    requires few { box_count level.now ≤ MAX_BOXES }
-    ensures { IfOk result (λ outcome. IsMovesOutcome level.now pushes limit outcome) }
-{
-    match search_moves(alloc, level, pushes, limit) {
-        Ok(outcome) => Ok(outcome),
-        Err(SearchFault::OutOfMemory { .. }) => Err(AllocError),
-        Err(SearchFault::TooManyBoxes) => unreachable!(),
-    }
-}
-
-/// The moves, or better ones that a search near them finds, after a search that found this many positions.
-pub(crate) fn improved(alloc: Global, level: &Level, moves: Moves, aim: Aim, found: usize) -> Moves
-    ensures { IsNoWorse level.now moves result }
-{
-    let mut moves = moves;
-    // If it runs out of memory, the moves are the best ones so far.
-    let _ = improve(alloc, level, &mut moves, aim, aim.states_after(found));
-    moves
-}
-
-/// The solution, or one with as many pushes and fewer moves that a search near it finds.
-fn with_fewer(alloc: Global, level: &Level, moves: Moves, pushes: u32, found: usize) -> Moves
+    found: usize,
+    seconds: Option<u32>,
+    watch: &mut P,
+) -> Moves
     requires solved { IsVerdict level.now moves (Solved pushes (length moves)) }
     requires fewest { NoneHasFewer level.now pushes }
     ensures { IsVerdict level.now result (Solved pushes (length result)) }
 {
-    improved(alloc, level, moves, Aim::FewerMoves, found)
+    watch.restart();
+    improved(alloc, level, moves, Aim::FewerMoves, found, seconds, watch)
 }
 
 /// What is known, given a solution with the fewest pushes, fewer than a given one has, after a search that found this many
 /// positions. If the fewest moves are wanted, it looks for them. If they are not, or that search ends at its limit, it
 /// saves moves of the solution where it can.
-pub(crate) fn with_fewest_pushes(
+pub(crate) fn with_fewest_pushes<P: Watch>(
     alloc: Global,
     level: &Level,
     given: Option<Counts>,
@@ -134,6 +120,7 @@ pub(crate) fn with_fewest_pushes(
     pushes: u32,
     found: usize,
     settings: Settings,
+    watch: &mut P,
 ) -> Result<Known, AllocError>
     requires solved { IsVerdict level.now moves (Solved pushes (length moves)) }
     requires fewest { NoneHasFewer level.now pushes }
@@ -143,35 +130,22 @@ pub(crate) fn with_fewest_pushes(
     ensures { IfOk result (λ known. IsBeside settings level.now given known) }
 {
     let count = pushes as usize;
+    let Settings { limit, seconds, .. } = settings;
     if !settings.moves {
-        let moves = with_fewer(alloc, level, moves, pushes, found);
-        return Ok(found_known(given, moves, count, count, MovesClaim::Counted));
+        let moves = with_fewer(alloc, level, moves, pushes, found, seconds, watch);
+        let claim = MovesClaim::Counted;
+        return Ok(found_known(given, moves, count, count, claim, LimitKind::Positions));
     }
-    let outcome = search_fewest(alloc, level, pushes, settings.limit)?;
-    match outcome {
-        MovesOutcome::Least { moves } => {
-            Ok(found_known(given, moves, count, count, MovesClaim::Fewest))
+    let best = search_fewest(alloc, level, pushes, settings, watch)?;
+    match best {
+        Ok(moves) => {
+            let claim = MovesClaim::Fewest;
+            Ok(found_known(given, moves, count, count, claim, LimitKind::Positions))
         }
-        MovesOutcome::Limit => {
-            let moves = with_fewer(alloc, level, moves, pushes, settings.limit as usize);
-            Ok(found_known(given, moves, count, count, MovesClaim::Open))
+        Err(reached) => {
+            let moves = with_fewer(alloc, level, moves, pushes, limit as usize, seconds, watch);
+            Ok(found_known(given, moves, count, count, MovesClaim::Open, reached))
         }
-    }
-}
-
-/// A solution that beams find after a search ended at its limit, with no more pushes than the cap, or a better one near
-/// it. It is a guess.
-pub(crate) fn first_found(
-    alloc: Global,
-    level: &Level,
-    at_least: u32,
-    cap: Option<u32>,
-    limit: u32,
-) -> Option<Moves> {
-    let found = limit as usize;
-    match first_solution(alloc, level, at_least, cap, found / 2) {
-        Ok(Some(moves)) => Some(improved(alloc, level, moves, Aim::FewerPushes, found)),
-        _ => None,
     }
 }
 
@@ -226,57 +200,94 @@ fn checked(
     Some((moves, pushes))
 }
 
-/// What is known once a search for the fewest pushes has ended at its limit, with a guess of a solution; every solution has
-/// at least `bound` pushes.
-pub(crate) fn known_at_limit(
+/// What is known once a search for the fewest pushes has ended at this limit, with a guess of a solution; every solution
+/// has at least `bound` pushes.
+pub(crate) fn known_at_limit<P: Watch>(
     alloc: Global,
     level: &Level,
     given: Option<Counts>,
     guess: Option<Moves>,
     bound: u32,
+    reached: LimitKind,
     settings: Settings,
+    watch: &mut P,
 ) -> Result<Known, AllocError>
     requires least { NoneHasFewer level.now bound }
-    requires open { IsOpen settings level.now bound }
+    requires open { IsOpen settings level.now reached bound }
     requires more { IfSome given (λ (s : CountsOf). bound < s.pushes) }
     requires few { box_count level.now ≤ MAX_BOXES }
     ensures { IfOk result (λ known. IsBeside settings level.now given known) }
 {
     let at_least = bound as usize;
+    let claim = MovesClaim::Counted;
     let Some((moves, pushes)) = checked(alloc, level, guess, settings.cap, given) else {
-        return Ok(given_known(given, at_least, MovesClaim::Counted));
+        return Ok(given_known(given, at_least, claim, reached));
     };
     if at_least < pushes {
-        return Ok(found_known(given, moves, pushes, at_least, MovesClaim::Counted));
+        return Ok(found_known(given, moves, pushes, at_least, claim, reached));
     }
     let found = settings.limit as usize;
-    with_fewest_pushes(alloc, level, given, moves, pushes as u32, found, settings)
+    let pushes = pushes as u32;
+    with_fewest_pushes(alloc, level, given, moves, pushes, found, settings, watch)
+}
+
+/// The judgement of a level once a search for the fewest pushes has ended at this limit; every solution has at least
+/// `at_least` pushes.
+fn judge_open<P: Watch>(
+    alloc: Global,
+    level: &Level,
+    at_least: u32,
+    reached: LimitKind,
+    settings: Settings,
+    watch: &mut P,
+) -> Judgement
+    requires least { NoneHasFewer level.now at_least }
+    requires open { IsOpen settings level.now reached at_least }
+    requires few { box_count level.now ≤ MAX_BOXES }
+    ensures { IsJudged settings level.now None result }
+{
+    watch.restart();
+    let guess = first_found(alloc, level, at_least, settings.cap, settings, watch);
+    let known = known_at_limit(
+        alloc, level, None, guess, at_least, reached, settings, watch,
+    );
+    judged(known, None, at_least as usize)
 }
 
 /// The judgement of a level after a search for the fewest pushes that found this many positions.
-fn judge_outcome(
+fn judge_outcome<P: Watch>(
     alloc: Global,
     level: &Level,
     outcome: Outcome,
     found: usize,
     settings: Settings,
+    watch: &mut P,
 ) -> Judgement
-    requires outcome { IsOutcome level.now settings.cap settings.limit outcome }
+    requires outcome { IsOutcome level.now settings.cap settings.limit (IsSome settings.seconds) outcome }
     requires few { box_count level.now ≤ MAX_BOXES }
     ensures { IsJudged settings level.now None result }
 {
     match outcome {
         Outcome::Least { moves, pushes } => {
-            let known = with_fewest_pushes(alloc, level, None, moves, pushes, found, settings);
+            let known = with_fewest_pushes(
+                alloc, level, None, moves, pushes, found, settings, watch,
+            );
             judged(known, None, pushes as usize)
         }
         Outcome::NoneWithin => Judgement::NoneWithin,
         Outcome::Unsolvable => Judgement::Unsolvable,
         Outcome::Limit { at_least } => {
-            let Settings { cap, limit, .. } = settings;
-            let guess = first_found(alloc, level, at_least, cap, limit);
-            let known = known_at_limit(alloc, level, None, guess, at_least, settings);
-            judged(known, None, at_least as usize)
+            judge_open(
+                alloc,
+                level,
+                at_least,
+                LimitKind::Positions,
+                settings,
+                watch,
+            )
+        }
+        Outcome::Stopped { at_least } => {
+            judge_open(alloc, level, at_least, LimitKind::Seconds, settings, watch)
         }
     }
 }
@@ -284,37 +295,36 @@ fn judge_outcome(
 /// The judgement of a lawful level, after a search for a solution with the fewest pushes and, if the settings say so, for
 /// the fewest moves of these.
 #[tactic(auto, using(crate::proofs::Judging::failed_judged))]
-fn judge_level<R: Threads + Sync, P: Progress>(
+fn judge_level<R: Threads + Sync, P: Watch>(
     rt: &R,
     alloc: Global,
     level: &Level,
     workers: u8,
     settings: Settings,
-    progress: &mut P,
+    watch: &mut P,
 ) -> Judgement
     ensures { IsJudged settings level.now None result }
 {
-    let Settings { cap, limit, .. } = settings;
-    let mut tally = Tally::of(progress);
-    match prover::search(rt, alloc, level, cap, limit, workers, &mut tally) {
-        Ok(outcome) => judge_outcome(alloc, level, outcome, tally.found(), settings),
+    let cap = settings.cap;
+    match search_pushes(rt, alloc, level, cap, workers, settings, watch) {
+        Ok((outcome, found)) => judge_outcome(alloc, level, outcome, found, settings, watch),
         Err(fault) => failed(None, fault),
     }
 }
 
 /// The judgement of a board without a given solution.
-pub(crate) fn judge_board<R: Threads + Sync, P: Progress>(
+pub(crate) fn judge_board<R: Threads + Sync, P: Watch>(
     rt: &R,
     alloc: Global,
     board: &Result<Level, LevelFault>,
     workers: u8,
     settings: Settings,
-    progress: &mut P,
+    watch: &mut P,
 ) -> Judgement
     ensures { IsJudgedOn false settings board.now None result }
 {
     match board {
-        Ok(level) => judge_level(rt, alloc, level, workers, settings, progress),
+        Ok(level) => judge_level(rt, alloc, level, workers, settings, watch),
         Err(fault) => Judgement::Faulty(*fault),
     }
 }

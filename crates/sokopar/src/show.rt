@@ -32,7 +32,6 @@ pub(crate) fn fault_report(alloc: Global, fault: LevelFault) -> Result<Report, A
 }
 
 /// Level N of a collection if it is lawful; else the report that there is none, or of its fault.
-#[tactic(auto, using(crate::proofs::Reporting::of_chosen))]
 pub(crate) fn lawful_level(
     alloc: Global,
     bytes: &[u8],

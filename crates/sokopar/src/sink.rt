@@ -2,7 +2,7 @@ ghost use Rattle.std.specs.Prelude.{◌≡◌, [], ◌∷◌, ◌++◌, ◌≤�
 ghost use Rattle.std.specs.Io.KnownBytes.{WriteAppends};
 ghost use Rattle.sokopar.specs.Ends.{Seen, moved, failed, untouched_end};
 
-use crate::trail::{Failed, Trail, Transfer};
+use crate::trail::{Failed, Past, Trail};
 use std::fmt;
 use std::fmt::{Debug, Formatter};
 use std::io::Write;
@@ -35,7 +35,7 @@ impl<W: Write + Drop> Writer<W> {
     {
         Writer {
             writer,
-            trail: Trail::new(),
+            trail: Trail::of(&Past::Nothing),
         }
     }
 }
@@ -47,11 +47,11 @@ impl<W: Write + Drop> Sink for Writer<W> {
     fn write(&mut self, text: &[u8]) -> Result<usize, Failed> {
         match self.writer.write(text) {
             Ok(count) if count > 0 => {
-                self.trail = self.trail.then(&Transfer::Moved(&text[..count]));
+                self.trail = Trail::of(&Past::Moved(&self.trail, &text[..count]));
                 Ok(count)
             }
             _ => {
-                self.trail = self.trail.then(&Transfer::Failed);
+                self.trail = Trail::of(&Past::Failed(&self.trail));
                 Err(Failed)
             }
         }

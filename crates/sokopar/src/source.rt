@@ -2,7 +2,7 @@ ghost use Rattle.std.specs.Prelude.{◌≡◌, [], ◌∷◌, ◌++◌, ◌≤�
 ghost use Rattle.std.specs.Io.KnownBytes.{ReadConsumes};
 ghost use Rattle.sokopar.specs.Ends.{Seen, moved, failed, untouched_end};
 
-use crate::trail::{Failed, Trail, Transfer};
+use crate::trail::{Failed, Past, Trail};
 use std::fmt;
 use std::fmt::{Debug, Formatter};
 use std::io::Read;
@@ -35,7 +35,7 @@ impl<R: Read + Drop> Reader<R> {
     {
         Reader {
             reader,
-            trail: Trail::new(),
+            trail: Trail::of(&Past::Nothing),
         }
     }
 }
@@ -46,11 +46,11 @@ impl<R: Read + Drop> Source for Reader<R> {
     fn read(&mut self, buffer: &mut [u8]) -> Result<usize, Failed> {
         match self.reader.read(buffer) {
             Ok(count) => {
-                self.trail = self.trail.then(&Transfer::Moved(&buffer[..count]));
+                self.trail = Trail::of(&Past::Moved(&self.trail, &buffer[..count]));
                 Ok(count)
             }
             Err(_) => {
-                self.trail = self.trail.then(&Transfer::Failed);
+                self.trail = Trail::of(&Past::Failed(&self.trail));
                 Err(Failed)
             }
         }

@@ -1,7 +1,7 @@
 use grid::Level;
 use prover::Progress;
 
-/// Passes on what a search knows, and keeps how many positions it has found.
+/// Passes on what a search tells, and keeps how many positions it has found.
 #[derive(Drop)]
 pub(crate) struct Tally<'a, P> {
     progress: &'a mut P,
@@ -21,8 +21,18 @@ impl<'a, P: Progress> Tally<'a, P> {
 }
 
 impl<'a, P: Progress> Progress for Tally<'a, P> {
+    ghost told = { λ it. P.told it.progress.now };
+
     fn note(&mut self, level: &Level, at_least: u32, found: usize) {
         self.found = found;
         self.progress.note(level, at_least, found);
+    }
+
+    fn better(&mut self, pushes: usize, moves: usize) {
+        self.progress.better(pushes, moves);
+    }
+
+    fn seconds(&mut self) -> u32 {
+        self.progress.seconds()
     }
 }

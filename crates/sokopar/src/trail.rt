@@ -1,8 +1,8 @@
-//! The history of a source or a sink, which only contracts see. It takes no memory, and its methods do nothing.
-ghost use Rattle.std.specs.Prelude.{◌≡◌, List, []};
+//! The history of a source or a sink, which only contracts see. It takes no memory, and its function does nothing.
+ghost use Rattle.std.specs.Prelude.{◌≡◌, List};
 ghost use Rattle.std.specs.Borrow.{ftrue};
 ghost use Rattle.sokopar.specs.Ends.{Act};
-ghost use Rattle.sokopar.specs.inside.Trail.{acts_code, after};
+ghost use Rattle.sokopar.specs.inside.Trail.{acts_code};
 
 use std::marker::Model;
 use thiserror::Error;
@@ -11,13 +11,6 @@ use thiserror::Error;
 #[derive(Clone, Copy, PartialEq, Eq, Debug, Drop, Error)]
 #[error("a read or a write failed")]
 pub struct Failed;
-
-/// The result of a read or a write: it moved some bytes, or it failed.
-#[derive(Clone, Copy, Drop)]
-pub(crate) enum Transfer<'a> {
-    Moved(&'a [u8]),
-    Failed,
-}
 
 /// The results so far.
 #[derive(Drop)]
@@ -29,17 +22,20 @@ impl Model for Trail {
     ghost also_owns = { λ _. ftrue };
 }
 
-impl Trail {
-    /// The empty history.
-    pub(crate) fn new() -> Trail
-        ensures { result.acts ≡ [] }
-    {
-        Trail {}
-    }
+/// What was done: nothing yet; or a read or a write after others, which moved some bytes, or failed.
+#[derive(Clone, Copy, Drop)]
+pub(crate) enum Past<'a> {
+    Nothing,
+    Moved(&'a Trail, &'a [u8]),
+    Failed(&'a Trail),
+}
 
-    /// The history with one more event.
-    pub(crate) fn then(&self, _event: &Transfer<'_>) -> Trail
-        ensures { result.acts ≡ after self.now.acts _event.now }
+impl Trail {
+    ghost use Rattle.sokopar.specs.inside.Trailing.{acts_of};
+
+    /// The history of what was done.
+    pub(crate) fn of(_past: &Past<'_>) -> Trail
+        ensures { result.acts ≡ acts_of _past.now }
     {
         Trail {}
     }

@@ -7,6 +7,7 @@ mod once;
 mod passed;
 mod reports;
 mod stopped;
+mod timed;
 
 use crate::{Paper, Pieces};
 use crew::Config;

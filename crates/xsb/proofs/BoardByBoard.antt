@@ -6,7 +6,6 @@ use Rattle.grid.specs.declared.cell.Cell.{Cell}
 use Rattle.xsb.specs.declared.boards.Stretch.{Stretch}
 use Rattle.xsb.specs.declared.entry.BoardEntry.{BoardEntry}
 use Rattle.xsb.specs.declared.entry.Entry.{Entry}
-use Rattle.xsb.specs.declared.limits.TheConstants.{MAX_FILE}
 use Rattle.xsb.specs.declared.lines.Lines.{Lines}
 use Rattle.xsb.specs.declared.names.Gap.{Gap}
 use Rattle.xsb.specs.Lines.{lines_of_text}
@@ -98,10 +97,6 @@ IsAt-on {old} {new} bytes lines here whole number =
 -- after the lines of a gap
 pub IsAt-gap : {old new : Lines} {gap : Gap} (bytes : List ℕ) → IsAt bytes old → ReadsGap old new gap → IsAt bytes new
 IsAt-gap bytes here is = IsAt-on bytes is.texts here is.read.whole is.read.number
-
--- before the first line
-pub IsAt-first : (bytes : List ℕ) (lines : Lines) → cut_lines lines.rest ≡ lines_of_text bytes → lines.number ≡ 1 → IsAt bytes lines
-IsAt-first bytes lines all one = record { before = []; whole = sym all; number = omega arith }
 
 -- a board more, and the gap after it
 pub Takes-more : {bytes : List ℕ} {mid : Lines} {stretch : Stretch} {founds : List Found} (first last : Collection) (entry : BoardEntry) →
@@ -208,13 +203,6 @@ HasEntries-more {bytes} {first} {entries} last board entry is next e =
 length-cut : (rest : List (List ℕ)) → length (cut_lines rest) ≡ length rest
 length-cut [] = refl
 length-cut (raw ∷ rest) = ap suc (length-cut rest)
-
--- the lines of a board are few
-pub few-lines : {old new : Lines} {stretch : Stretch} → old.number + length old.rest ≤ MAX_FILE + 1 → ReadsBoard old new stretch →
-    stretch.first_line + stretch.count ≤ MAX_FILE + 1
-few-lines {old} {new} {stretch} few is =
-    let a = ap length is.read.whole in let b = length-cut old.rest in let c = length-append is.lines (cut_lines new.rest) in
-    let d = is.first_line in let e = is.count in omega arith
 
 -- a board and a gap take lines away
 pub reads-fewer : {first mid last : Lines} {after : Gap} {stretch : Stretch} → ReadsBoard first mid stretch → ReadsGap mid last after →

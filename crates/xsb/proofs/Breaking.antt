@@ -1,6 +1,6 @@
 -- Where a line breaks, and readers of lines.
 use Rattle.std.proofs.Common.{◌≡◌, ℕ, ◌+◌, ◌-◌, ◌≤◌, Bool, true, false, List, [], ◌∷◌, ◌++◌, length, take, drop, refl, sym, ap, ◌∙◌, arith}
-use Rattle.std.proofs.Common.{length-append, append_assoc, subst, append-nil, slice_get, Option, Some, None, IfNone, MatchBool, is_some, inl, inr}
+use Rattle.std.proofs.Common.{length-append, append_assoc, subst, slice_get, Option, Some, None, IfNone, MatchBool, is_some, inl, inr}
 use Rattle.std.proofs.Common.{encode_utf8, eqb, ◌<◌}
 use Rattle.std.proofs.lemmas.List.Folds.{length-prefix_len}
 use Rattle.std.proofs.lemmas.Slice.Eq.{starts_is}
@@ -114,10 +114,6 @@ IsBroken-here {bytes} old new line flaw parts past next is number before after =
   flaw = is.1;
   parts = λ told. (past.after_row (before told), subst (λ n. IsRowAt bytes n) number (after told));
 }
-
--- a line of which all is passed
-pub IsPassed-all : {line rest : List ℕ} → IsPassed line rest → rest ≡ [] → AreItems line
-IsPassed-all {line} {rest} is e = subst AreItems (sym (is.whole ∙ ap (λ r. is.before ++ r) e ∙ append-nil is.before)) is.items
 
 -- a character whose bytes come first
 pub spelled-first : (bytes text : List ℕ) (c : ℕ) (is_first : Bool) → text ≡ encode_utf8 c → is_first ≡ starts_with eqb bytes text → is_first ≡ true →

@@ -1,7 +1,6 @@
 -- Gaps and boards, as they are read line by line.
-use Rattle.std.proofs.Common.{◌≡◌, ℕ, ◌+◌, true, false, List, [], ◌∷◌, ◌++◌, drop, flat_map, refl, sym, ap, ◌∙◌, arith, length-append}
-use Rattle.std.proofs.Common.{append_assoc, subst, Option, Some, None, is_some, MatchOption}
-use Rattle.std.proofs.lemmas.Bool.{false≢true}
+use Rattle.std.proofs.Common.{◌≡◌, ℕ, ◌+◌, List, [], ◌∷◌, ◌++◌, drop, flat_map, refl, sym, ap, ◌∙◌, arith, length-append}
+use Rattle.std.proofs.Common.{append_assoc}
 use Rattle.std.specs.List.{AllByRecursion}
 use Rattle.std.proofs.lemmas.List.{append-nil}
 use Rattle.std.proofs.lemmas.List.Concat.{flat_map-append}
@@ -9,11 +8,9 @@ use Rattle.grid.specs.declared.cell.Cell.{Cell}
 use Rattle.bstr.specs.declared.iters.LinesWithTerminator.{LinesWithTerminator}
 use Rattle.xsb.specs.declared.boards.Beyond.{Beyond}
 use Rattle.xsb.specs.declared.lines.Lines.{Lines}
-use Rattle.xsb.specs.declared.names.Gap.{Gap}
 use Rattle.xsb.specs.declared.sizes.Size.{Size}
-use Rattle.xsb.specs.Rows.{IsRowLine, IsTextLine}
+use Rattle.xsb.specs.Rows.{IsRowLine}
 use Rattle.xsb.specs.inside.Reading.{cut_line, cut_lines, IsSize}
-use Rattle.xsb.specs.inside.Gaps.{IsGap, ReadsTexts, ReadsGap, BeginsBoard}
 use Rattle.xsb.specs.inside.Stretches.{ArePast, AreRowLines, ReadsRows, beyond_with}
 use Rattle.xsb.proofs.PastLimits.{ArePast-more}
 use Rattle.xsb.proofs.RowLines.{AllZip-last}
@@ -41,37 +38,6 @@ next-line rest after line next e =
 AllByRecursion-last : {A : Type 0} (P : A → Type 0) (xs : List A) (x : A) → AllByRecursion P xs → P x → AllByRecursion P (xs ++ x ∷ [])
 AllByRecursion-last P [] x all is = (is, tt)
 AllByRecursion-last P (y ∷ xs) x all is = (all.0, AllByRecursion-last P xs x all.1 is)
-
-pub ReadsTexts-none : (lines : Lines) (gap : Gap) → IsGap gap [] → ReadsTexts lines lines gap []
-ReadsTexts-none lines gap is = record { all = tt; whole = refl; number = omega arith; told = is }
-
--- one text line more
-pub ReadsTexts-more : {old mid : Lines} {gap : Gap} {texts : List (List ℕ)} (new : Lines) (fresh : Gap) (line : List ℕ) → ReadsTexts old mid gap texts →
-    (raw : List ℕ) × (more : List (List ℕ)) × (mid.rest ≡ raw ∷ more) × (line ≡ cut_line raw) → IsTextLine line → new.rest ≡ drop 1 mid.rest →
-    new.number ≡ mid.number + 1 →
-    ((lines : List (List ℕ)) → IsGap gap lines → IsGap fresh (lines ++ line ∷ [])) → ReadsTexts old new fresh (texts ++ line ∷ [])
-ReadsTexts-more {old} {mid} {gap} {texts} new fresh line is next text e f told =
-    let long = length-append texts (line ∷ []) in let was = is.number in
-    record {
-      all = AllByRecursion-last IsTextLine texts line is.all text;
-      whole = is.whole ∙ ap (λ l. texts ++ l) (next-line mid.rest new.rest line next e) ∙ sym (append_assoc texts (line ∷ []) (cut_lines new.rest));
-      number = omega arith;
-      told = told texts is.told;
-    }
-
--- the texts are a gap where a row line comes next
-pub ReadsGap-row : {old new : Lines} {gap : Gap} {texts : List (List ℕ)} (line : List ℕ) → ReadsTexts old new gap texts →
-    (raw : List ℕ) × (more : List (List ℕ)) × (new.rest ≡ raw ∷ more) × (line ≡ cut_line raw) → (rows : List (List Cell)) × IsRowLine line rows →
-    ReadsGap old new gap
-ReadsGap-row {old} {new} {gap} {texts} line is next row = record {
-  texts = texts;
-  read = is;
-  ends = subst BeginsBoard (sym (next-line new.rest (drop 1 new.rest) line next refl)) row;
-}
-
--- or the end
-pub ReadsGap-end : {old new : Lines} {gap : Gap} {texts : List (List ℕ)} → ReadsTexts old new gap texts → new.rest ≡ [] → ReadsGap old new gap
-ReadsGap-end {old} {new} {gap} {texts} is e = record { texts = texts; read = is; ends = subst BeginsBoard (sym (ap cut_lines e)) tt }
 
 -- the rows of one line more
 AreRowLines-more : (lines : List (List ℕ)) (rows others : List (List Cell)) (line : List ℕ) → AreRowLines lines rows → IsRowLine line others →
@@ -106,14 +72,3 @@ IsRead-more {old} {mid} {size} {beyond} {first_line} {first} new more fresh onwa
       first_is = is.first_is;
       past = ArePast-more is.lines is.rows first_line mid.number beyond onward fresh line row.0 is.read.rows_are row.1 (omega arith) sized g is.past;
     }
-
--- what the size of a line says of it
-pub text-none : (o : Option Size) (line : List ℕ) → MatchOption o (IsTextLine line) (λ size. (rows : List (List Cell)) × IsRowLine line rows ×
-    IsSize size rows) → is_some o ≡ false → IsTextLine line
-text-none None line is e = is
-text-none (Some size) line is e = absurd (false≢true (sym e))
-
-pub row-some : (o : Option Size) (line : List ℕ) → MatchOption o (IsTextLine line) (λ size. (rows : List (List Cell)) × IsRowLine line rows ×
-    IsSize size rows) → is_some o ≡ true → (rows : List (List Cell)) × IsRowLine line rows
-row-some None line is e = absurd (false≢true e)
-row-some (Some size) line is e = (is.0, is.1)

@@ -175,13 +175,6 @@ pub record PushesRows (line : List ℕ) (cols k : ℕ) (old new : List Cell) : T
   pub made : (rows : List (List Cell)) → IsRowLine line rows → cols_of rows ≤ cols →
       new ≡ old ++ flat_map (padded cols) (first_rows k (slice_split (λ b. b == bar) line) rows)
 
-pub PushesRows-none : (line : List ℕ) (cols : ℕ) (old : List Cell) → PushesRows line cols 0 old old
-PushesRows-none line cols old = record {
-  made = λ rows is wide.
-      sym (append-nil old) ∙ ap (λ l. old ++ flat_map (padded cols) l)
-      (sym (ap (λ l. take (length (some_of l)) rows) (take-zero (slice_split (λ b. b == bar) line)) ∙ take-zero rows));
-}
-
 pub PushesRows-empty : {line : List ℕ} {cols k n : ℕ} {old new : List Cell} (piece : List ℕ) → PushesRows line cols k old new → n ≡ suc k →
     (k < length (slice_split (λ b. b == bar) line)) × (piece ≡ get_or (slice_split (λ b. b == bar) line) k piece) → length piece ≡ 0 →
     PushesRows line cols n old new

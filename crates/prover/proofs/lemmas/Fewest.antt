@@ -10,11 +10,11 @@ use Rattle.prover.specs.declared.outcome.Outcome.{Outcome}
 use Rattle.prover.specs.declared.outcome.Outcome.TheVariants.{NoneWithin}
 
 -- none has fewer pushes if none has two pushes less
-pub none_has_fewer : (board : Board) (limit pushes most : ℕ) (o : Outcome) → TwoLessDecide board → IsLevel board → SomeHas board pushes →
-    IsOutcome board (Some most) limit o → o ≡ NoneWithin → pushes ≡ suc (suc most) → NoneHasFewer board pushes
-none_has_fewer board limit pushes most o law level some so e two = by (subst (λ (x : Outcome). IsOutcome board (Some most) limit x) e so)
+pub none_has_fewer : (board : Board) (limit pushes most : ℕ) (Late : Type 0) (o : Outcome) → TwoLessDecide board → IsLevel board → SomeHas board pushes →
+    IsOutcome board (Some most) limit Late o → o ≡ NoneWithin → pushes ≡ suc (suc most) → NoneHasFewer board pushes
+none_has_fewer board limit pushes most Late o law level some so e two = by (subst (λ (x : Outcome). IsOutcome board (Some most) limit Late x) e so)
   where
-    by : IsOutcome board (Some most) limit NoneWithin → NoneHasFewer board pushes
+    by : IsOutcome board (Some most) limit Late NoneWithin → NoneHasFewer board pushes
     by (cap, is, none) =
         let same : cap ≡ most = sym (ap (λ (n : Option ℕ). unwrap_or n 0) is) in
         let long : pushes ≡ suc (suc cap) = omega (arith, same, two) in

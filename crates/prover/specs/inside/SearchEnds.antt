@@ -6,7 +6,7 @@ use Rattle.prices.specs.Solving.{Allows, NoneWithin as NonePlays}
 use Rattle.prover.specs.declared.outcome.Outcome.{Outcome}
 use Rattle.prover.specs.declared.outcome.Outcome.TheVariants.{NoneWithin, Unsolvable}
 use Rattle.prover.specs.declared.searching.SearchEnd.{SearchEnd}
-use Rattle.prover.specs.declared.searching.SearchEnd.TheVariants.{Closed, Solved, Limit}
+use Rattle.prover.specs.declared.searching.SearchEnd.TheVariants.{Closed, Solved, Limit, Stopped}
 use Rattle.prices.specs.Fewest.{NoneHasFewer}
 use Rattle.prover.specs.Reachable.{HasMore}
 use Rattle.store.specs.Visited.{Node}
@@ -33,8 +33,9 @@ pub record IsLeastSolved (board : Board) (cap : Option ℕ) (all : List Node) (p
 abbrev pub IsFloor : Board → Option ℕ → ℕ → Type 0
 IsFloor board cap least = NoneHasFewer board least × Allows cap least
 
--- what the end says of the level, beside what was found
-abbrev pub Tells : Board → Option ℕ → ℕ → List Node → SearchEnd → Type 0
-Tells board cap limit all Closed = NoneIsAllowed board cap
-Tells board cap limit all (Solved place) = IsLeastSolved board cap all place
-Tells board cap limit all Limit = HasMore board limit
+-- what the end says of the level, beside what was found; `Late` says that the search's time is up
+abbrev pub Tells : Board → Option ℕ → ℕ → Type 0 → List Node → SearchEnd → Type 0
+Tells board cap limit Late all Closed = NoneIsAllowed board cap
+Tells board cap limit Late all (Solved place) = IsLeastSolved board cap all place
+Tells board cap limit Late all Limit = HasMore board limit
+Tells board cap limit Late all Stopped = Late

@@ -1,7 +1,7 @@
 -- The states that a search lists.
 use Rattle.std.specs.Prelude.{◌≡◌, ℕ, suc, ◌+◌, ◌≤◌, ◌<◌, List, [], ◌∷◌, ◌++◌, map, length, slice_get, Option}
 use Rattle.std.specs.Prelude.{Some, None}
-use Rattle.std.specs.Prelude.{◌⊎◌, Bool, true, false}
+use Rattle.std.specs.Prelude.{◌⊎◌}
 use Rattle.grid.specs.declared.square.Push.{Push}
 use Rattle.grid.specs.Board.{Board, Scene, start}
 use Rattle.grid.specs.Lawful.{box_count}
@@ -14,6 +14,8 @@ use Rattle.successors.specs.Distances.{AreDistinct}
 use Rattle.successors.specs.Expansion.{after_push}
 use Rattle.store.specs.Visited.{Node, VisitedView}
 use Rattle.shortest.specs.Shortest.{IsReachedBy}
+use Rattle.shortest.specs.declared.listing.ListEnd.{ListEnd}
+use Rattle.shortest.specs.declared.listing.ListEnd.TheVariants.{Whole, Limit, Stopped}
 
 -- a level and the greatest number of pushes that is still wanted
 pub record BoundsView : Type 0 where
@@ -52,10 +54,11 @@ pub record IsStateList (board : Board) (most done : ℕ) (v : VisitedView) : Typ
   pub boxes : v.boxes ≡ box_count board
   pub squares : v.squares ≡ length board.cells
 
--- how the listing ends: all are expanded, or there are more than the limit
-abbrev pub EndsListing : Board → ℕ → ℕ → VisitedView → Bool → Type 0
-EndsListing board most limit v true = IsStateList board most (length v.entries) v
-EndsListing board most limit v false = (done : ℕ) × IsStateList board most done v × (limit < length v.entries)
+-- how the listing ends: all are expanded, or there are more than the limit, or the time is up, as `Late` says
+abbrev pub EndsListing : Board → ℕ → ℕ → Type 0 → VisitedView → ListEnd → Type 0
+EndsListing board most limit Late v Whole = IsStateList board most (length v.entries) v
+EndsListing board most limit Late v Limit = (done : ℕ) × IsStateList board most done v × (limit < length v.entries)
+EndsListing board most limit Late v Stopped = Late
 
 -- the entry is new, or its state is listed with no more pushes and nothing changes
 abbrev pub Lists : List Node → List Node → Node → Type 0

@@ -1,11 +1,12 @@
 -- The parts of reports that functions of their own write.
-use Rattle.std.specs.Prelude.{◌≡◌, ℕ, Bool, List, ◌++◌, length, Option, Some, None, IfSome, Result, Ok, Err, is_ok, codes, decimal}
+use Rattle.std.specs.Prelude.{◌≡◌, ℕ, Bool, List, ◌++◌, length, Option, Some, None, Result, Ok, Err, is_ok, codes, decimal}
 use Rattle.grid.specs.Board.{Board}
 use Rattle.grid.specs.declared.moves.Letter.{Letter}
 use Rattle.judging.specs.declared.judgement.Counts.{Counts}
 use Rattle.judging.specs.declared.judgement.Judgement.{Judgement}
 use Rattle.judging.specs.declared.judgement.Judgement.TheVariants as is
 use Rattle.judging.specs.declared.judgement.Known.{Known}
+use Rattle.judging.specs.declared.judgement.LimitKind.{LimitKind}
 use Rattle.judging.specs.declared.judgement.MovesClaim.{MovesClaim}
 use Rattle.judging.specs.declared.judgement.Settings.{Settings}
 use Rattle.judging.specs.Words.{counts_words, none_words}
@@ -15,8 +16,8 @@ use Rattle.prices.specs.declared.fault.SearchFault.TheVariants.{TooManyBoxes, Ou
 use Rattle.solo.specs.declared.answer.Answer.{Answer}
 use Rattle.solo.specs.declared.answer.Answer.TheVariants.{Solved, Unsolvable, NoneWithin, Limit}
 use Rattle.sokopar.specs.Judging.{IsKnown}
-use Rattle.sokopar.specs.Listing.{IsLevelListing, IsLevelOf, Listed, level_at}
-use Rattle.sokopar.specs.Report.{Report, ReportsOn}
+use Rattle.sokopar.specs.Listing.{IsLevelAt, Listed}
+use Rattle.sokopar.specs.Report.{Report, IsReportOn}
 use Rattle.sokopar.specs.Solving.{positions_words}
 
 -- the board is a lawful level
@@ -25,22 +26,22 @@ is_good listed = is_ok listed.board
 
 -- level n of these bytes if it is lawful, else the report that there is none, or of its fault
 abbrev pub HasChosen : List ℕ → ℕ → Result Board Report → Type 0
-HasChosen bytes n (Ok board) = IsLevelOf bytes n board
-HasChosen bytes n (Err report) =
-    (listing : List Listed) × IsLevelListing bytes listing ×
-    ReportsOn (λ board told. ⊥) n (level_at listing n) report
+HasChosen bytes n (Ok board) = IsLevelAt bytes n (Some (Ok board))
+HasChosen bytes n (Err report) = IsReportOn (λ board told. ⊥) n bytes report
 
 -- what is known of a solution that was found, and of a given one
-abbrev pub found_known : Option Counts → List Letter → ℕ → ℕ → MovesClaim → Known
-found_known given letters pushes bound claim = record {
+abbrev pub found_known : Option Counts → List Letter → ℕ → ℕ → MovesClaim → LimitKind → Known
+found_known given letters pushes bound claim limit = record {
   given = given;
   found = Some (record { letters = letters; counts = record { pushes = pushes; moves = length letters } });
   at_least = bound;
   claim = claim;
+  limit = limit;
 }
 
-abbrev pub given_known : Option Counts → ℕ → MovesClaim → Known
-given_known given bound claim = record { given = given; found = None; at_least = bound; claim = claim }
+abbrev pub given_known : Option Counts → ℕ → MovesClaim → LimitKind → Known
+given_known given bound claim limit =
+    record { given = given; found = None; at_least = bound; claim = claim; limit = limit }
 
 -- the judgement if a search failed
 abbrev pub failed : Option Counts → SearchFault → Judgement

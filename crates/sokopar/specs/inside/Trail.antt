@@ -1,18 +1,7 @@
 -- How the code keeps what an end did, for contracts alone.
-use Rattle.std.specs.Prelude.{◌≡◌, ℕ, List, [], ◌∷◌, ◌++◌, Option, Some, None, refl}
+use Rattle.std.specs.Prelude.{◌≡◌, ℕ, List, Option, Some, None, refl}
 use Rattle.std.specs.Coded.{Coded, code_by, coded_ℕ, coded_list, coded_option}
 use Rattle.sokopar.specs.Ends.{Act, moved, failed}
-use Rattle.sokopar.specs.declared.trail.Transfer.{Transfer}
-use Rattle.sokopar.specs.declared.trail.Transfer.TheVariants as event
-
--- the act of an event
-abbrev pub act_of : Transfer → Act
-act_of (event.Moved bytes) = moved bytes.now
-act_of event.Failed = failed
-
--- what an event adds to the acts so far
-abbrev pub after : List Act → Transfer → List Act
-after acts event = acts ++ act_of event ∷ []
 
 -- how the logic stores acts
 abbrev bytes_if_moved : Act → Option (List ℕ)

@@ -3,7 +3,7 @@ ghost use Rattle.std.specs.Prelude.{⊤, codes};
 
 use crate::{Paper, Pieces};
 use sokopar::{
-    Folder, LevelsRequest, Reader, RunFault, Settings, Unwatched, Writer, run_best_collection,
+    Folder, LevelsRequest, Reader, RunFault, Settings, Unheard, Writer, run_best_collection,
     run_prove_collection,
 };
 use std::alloc::Global;
@@ -22,6 +22,7 @@ fn a_table_has_a_row_for_each_level(rt: HostRuntime) {
         cap: None,
         limit: 1_000,
         moves: true,
+        seconds: None,
     };
     let request = LevelsRequest {
         from: 1,
@@ -36,7 +37,7 @@ fn a_table_has_a_row_for_each_level(rt: HostRuntime) {
         alloc,
         &mut Reader::new(LEVELS),
         request,
-        &mut Unwatched,
+        &mut Unheard,
         &mut Writer::new(&mut paper),
     );
     assert_eq!(&rt; status, Ok(1));
@@ -106,6 +107,7 @@ fn proves_all<R: Threads + Sync + Abort>(
         cap: None,
         limit: 1_000,
         moves: false,
+        seconds: None,
     };
     let request = LevelsRequest {
         from: 1,
@@ -121,7 +123,7 @@ fn proves_all<R: Threads + Sync + Abort>(
         &mut Reader::new(LEVELS),
         &shelf,
         request,
-        &mut Unwatched,
+        &mut Unheard,
         &mut Writer::new(&mut paper),
     );
     assert_eq!(rt; answer, Ok(status));

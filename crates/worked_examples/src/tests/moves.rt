@@ -1,8 +1,8 @@
 //! The reports of `best` and `prove`, with and without the fewest moves.
 use crate::Paper;
 use sokopar::{
-    LevelRequest, LevelsRequest, Reader, Settings, Unwatched, Writer, run_best,
-    run_best_collection, run_prove,
+    LevelRequest, LevelsRequest, Reader, Settings, Unheard, Writer, run_best, run_best_collection,
+    run_prove,
 };
 use std::alloc::Global;
 use std::process::Abort;
@@ -17,6 +17,7 @@ fn settings(limit: u32, moves: bool) -> Settings {
         cap: None,
         limit,
         moves,
+        seconds: None,
     }
 }
 
@@ -35,7 +36,7 @@ fn best_looks_for_the_fewest_moves_if_they_are_wanted(rt: HostRuntime) {
         alloc,
         &mut Reader::new(ROOM),
         request,
-        &mut Unwatched,
+        &mut Unheard,
         &mut Writer::new(&mut paper),
     );
     assert_eq!(&rt; status, Ok(0));
@@ -62,7 +63,7 @@ fn levels_of_a_collection_have_the_fewest_moves_if_they_are_wanted(rt: HostRunti
         alloc,
         &mut Reader::new(ROOM),
         request,
-        &mut Unwatched,
+        &mut Unheard,
         &mut Writer::new(&mut paper),
     );
     assert_eq!(&rt; status, Ok(0));
@@ -94,7 +95,7 @@ fn proves<R: Threads + Sync + Abort>(
         &mut Reader::new(ROOM),
         &mut Reader::new(solution),
         request,
-        &mut Unwatched,
+        &mut Unheard,
         &mut Writer::new(&mut paper),
     );
     assert_eq!(rt; answer, Ok(status));

@@ -1,7 +1,9 @@
 use Rattle.std.proofs.Common.{◌∙◌, refl, subst, sym}
 use Rattle.successors.specs.Problems.{Problem}
+use Rattle.prices.specs.Timing.{IsLate}
 use Rattle.prover.specs.inside.SearchEnds.{IsFloor, Tells}
 use Rattle.prover.specs.inside.Working.{IsSearchOnBoard}
+use Rattle.prover.proofs.Endings.{tells_beyond}
 use Rattle.prover.proofs.searching.run_all.Goals as goal
 
 pub loop-first-init : goal.loop-first-init
@@ -18,8 +20,9 @@ loop-first-preserved g c =
 
 pub returns-then-decided-clause-tells : goal.returns-then-decided-clause-tells
 returns-then-decided-clause-tells g c =
-    subst (λ (v : Problem). Tells v.board v.cap c.args.limit c.run.new.frontier.entries c.in_ok-end.end) c.loop-first.invariant.same
-    (c.is_decided-decided.ensures c.if-decided.true _ _ _ c.args.limit _ c.in_ok-end.ensures.tells)
+    let Late = IsLate c.args.seconds (g.P.Progress.told c.run.new.progress) in
+    subst (λ (v : Problem). Tells v.board v.cap c.args.limit Late c.run.new.frontier.entries c.in_ok-end.end) c.loop-first.invariant.same
+    (tells_beyond _ _ _ c.args.limit Late _ _ (c.is_decided-decided.ensures c.if-decided.true) c.in_ok-end.ensures.tells)
 
 pub returns-then-decided-clause-floor : goal.returns-then-decided-clause-floor
 returns-then-decided-clause-floor g c =

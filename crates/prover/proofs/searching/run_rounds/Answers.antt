@@ -131,3 +131,8 @@ note-requires g c =
     floor_on c.in-Some.place c.in-Some.least c.least_open.ensures.same c.level.ensures c.tell.ensures c.rounds.invariant.searched
     (search rules) c.max.ensures c.rounds.invariant.floor in
     subst (λ (b : Board). NoneHasFewer b c.max.result) (sym c.level-in-Some.ensures) floor.0
+
+pub returns-then-reach-gt0-clause-floor : goal.returns-then-reach-gt0-clause-floor
+returns-then-reach-gt0-clause-floor g c =
+    floor_on c.in-Some.place c.in-Some.least c.least_open.ensures.same c.level.ensures c.tell.ensures c.rounds.invariant.searched
+    (search rules) c.max.ensures c.rounds.invariant.floor

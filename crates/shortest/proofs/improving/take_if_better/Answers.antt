@@ -5,7 +5,7 @@ use Rattle.shortest.proofs.Better.{no_worse_by}
 use Rattle.shortest.proofs.improving.take_if_better.Goals as goal
 
 pub returns : goal.returns
-returns c =
+returns g c =
     let board = c.args.level.now in
     no_worse_by board c.args.moves.now c.args.candidate c.in-Solved.old_pushes c.in-Solved.old_moves
     c.in-Solved-after.new_pushes c.in-Solved-after.new_moves (c.one_verdict.ensures board c.args.moves.now)

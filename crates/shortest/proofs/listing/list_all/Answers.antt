@@ -4,16 +4,16 @@ use Rattle.shortest.proofs.Layering.{all_expanded}
 use Rattle.shortest.proofs.listing.list_all.Goals as goal
 
 pub expand-requires-clause-listing : goal.expand-requires-clause-listing
-expand-requires-clause-listing c =
+expand-requires-clause-listing g c =
     subst (λ (b : BoundsView). IsStateList b.board b.cap c.loop-place.place c.loop-place.listed)
     (sym (c.make_tables_at.ensures ∙ c.loop-place.invariant.same)) c.loop-place.invariant.listing
 
 pub expand-requires-clause-board : goal.expand-requires-clause-board
-expand-requires-clause-board c =
+expand-requires-clause-board g c =
     c.loop-place.invariant.board ∙ sym (ap (λ (b : BoundsView). b.board) (c.make_tables_at.ensures ∙ c.loop-place.invariant.same))
 
 pub loop-place-preserved : goal.loop-place-preserved
-loop-place-preserved c =
+loop-place-preserved g c =
     let same = c.make_tables_at.ensures ∙ c.loop-place.invariant.same in
     record {
       same = same;
@@ -24,7 +24,7 @@ loop-place-preserved c =
     }
 
 pub returns : goal.returns
-returns c =
+returns g c =
     let all = c.loop-place.listed.entries in
     let listing = c.loop-place.invariant.listing in
     let over : length all ≤ c.loop-place.place = search rules in

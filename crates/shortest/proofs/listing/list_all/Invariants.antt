@@ -3,11 +3,11 @@ use Rattle.shortest.specs.inside.Listing.{IsStateList}
 use Rattle.shortest.proofs.listing.list_all.Given as goal
 
 abbrev pub invariant-loop-place : goal.invariant-loop-place
-invariant-loop-place l = record {
+invariant-loop-place g l = record {
   same : l.bounds ≡ l.fn.bounds;
   listing : IsStateList l.fn.bounds.board l.fn.bounds.cap l.place l.listed;
   board : l.workspace.expander.problem.board ≡ l.fn.bounds.board;
 }
 
 abbrev pub decreases-loop-place : goal.decreases-loop-place
-decreases-loop-place l = l.limit - l.place
+decreases-loop-place g l = l.limit - l.place

@@ -1,9 +1,6 @@
 -- A step more was not possible.
-use Rattle.sokopar.proofs.Plights.{blocked_all, blocked_more, blocked_none}
+use Rattle.sokopar.proofs.Plights.{blocked_all, blocked_more}
 use Rattle.sokopar.proofs.doomed.is_stuck.Goals as goal
-
-pub loop-dir-init : goal.loop-dir-init
-loop-dir-init c = blocked_none c.args.level.now c.in_ok-state.state c.in_ok-state.ensures.start
 
 pub loop-dir-preserved : goal.loop-dir-preserved
 loop-dir-preserved c =

@@ -6,29 +6,10 @@ use Rattle.sokopar.specs.inside.Explaining.{HasTurned, board_in}
 use Rattle.sokopar.proofs.Exiting.{next_below, next_filling, next_less, no_exit}
 use Rattle.sokopar.proofs.exits.first_exit.Goals as goal
 
-pub look_round-requires-clause-turn : goal.look_round-requires-clause-turn
-look_round-requires-clause-turn c =
-    let is = ap (λ (ps : Squares). slice_get ps c.turns.turn) (sym c.as_slice.ensures.value) ∙ sym c.pending_at.ensures ∙ c.in-Some.is in
-    next_below c.turns.pending.items c.turns.turn c.in-Some.square is
-
 pub look_round-requires-clause-filling : goal.look_round-requires-clause-filling
 look_round-requires-clause-filling c =
     let is = ap (λ (ps : Squares). slice_get ps c.turns.turn) (sym c.as_slice.ensures.value) ∙ sym c.pending_at.ensures ∙ c.in-Some.is in
     next_filling (board_in c.args.rows.now) c.turns.turn c.turns.marks c.turns.pending.items c.turns.invariant c.in-Some.square is
-
-pub returns-then-ends : goal.returns-then-ends
-returns-then-ends c =
-    let board = board_in c.args.rows.now in
-    subst (λ (b : Bool). MatchBool b (IsExit board c.in-Some.square)
-    (HasTurned board (c.turns.turn + 1) c.turns.marks c.turns.pending.items c.look_round.new.marks c.look_round.new.pending.items))
-    c.if-ends.true c.in_ok-ends.ensures
-
-pub turns-preserved : goal.turns-preserved
-turns-preserved c =
-    let board = board_in c.args.rows.now in
-    (subst (λ (b : Bool). MatchBool b (IsExit board c.in-Some.square)
-    (HasTurned board (c.turns.turn + 1) c.turns.marks c.turns.pending.items c.look_round.new.marks c.look_round.new.pending.items))
-    c.if-ends.false c.in_ok-ends.ensures).filling
 
 pub turns-smaller : goal.turns-smaller
 turns-smaller c =

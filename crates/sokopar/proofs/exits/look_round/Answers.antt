@@ -5,12 +5,8 @@ use Rattle.grid.specs.declared.dir.Dir.TheVariants.{D, L, R, U}
 use Rattle.grid.proofs.lemmas.Filling.{first_inside}
 use Rattle.grid.proofs.lemmas.Directions.{dir_at}
 use Rattle.sokopar.specs.inside.Explaining.{board_in}
-use Rattle.sokopar.proofs.Exiting.{beside_inside, turned, turning_first, turning_more}
+use Rattle.sokopar.proofs.Exiting.{beside_inside, turned, turning_more}
 use Rattle.sokopar.proofs.exits.look_round.Goals as goal
-
-pub loop-dir-init : goal.loop-dir-init
-loop-dir-init c = turning_first (board_in c.args.rows.now) (c.args.turn + 1) c.args.square c.args.marks.now c.args.pending.now.items c.requires.turn
-    c.requires.filling
 
 pub next_to-place-requires-clause-inside : goal.next_to-place-requires-clause-inside
 next_to-place-requires-clause-inside c = first_inside (board_in c.args.rows.now) c.loop-dir.marks c.args.square

@@ -4,14 +4,8 @@ use Rattle.xsb.specs.declared.places.BoardRows.{BoardRows}
 use Rattle.xsb.specs.declared.places.Excess.{Excess}
 use Rattle.xsb.specs.inside.Sources.{HasRowsFor}
 use Rattle.sokopar.specs.Entries.{listed_of}
-use Rattle.sokopar.proofs.Explanations.{bounds-of, judged-of, level-large, level-written}
+use Rattle.sokopar.proofs.Explanations.{level-large, level-written}
 use Rattle.sokopar.proofs.explain.put_level.Goals as goal
-
-pub put_judged-requires-clause-bounds : goal.put_judged-requires-clause-bounds
-put_judged-requires-clause-bounds c = bounds-of c.args.source c.in-Ok.rows c.requires.0 c.requires.1 c.in-Ok.is
-
-pub put_judged-requires-clause-judged : goal.put_judged-requires-clause-judged
-put_judged-requires-clause-judged c = judged-of c.args.source c.in-Ok.rows c.requires.0 c.requires.1 c.in-Ok.is
 
 pub returns-in-Ok : goal.returns-in-Ok
 returns-in-Ok c = λ bytes found listing count listed source wanted before.

@@ -7,18 +7,9 @@ use Rattle.sokopar.specs.Explaining.{IsRemarkOn, IsRemarkOnLevel}
 use Rattle.sokopar.specs.inside.Explaining.{board_in}
 use Rattle.sokopar.proofs.explain.remark_of.Goals as goal
 
-pub remark_of_fault-requires-clause-fault : goal.remark_of_fault-requires-clause-fault
-remark_of_fault-requires-clause-fault c =
-    subst (λ (b : Result Board LevelFault). IsJudged (board_in c.args.rows.now) b) c.in-Err.is c.requires.judged
-
 pub returns-in_ok-goals-in-Ok : goal.returns-in_ok-goals-in-Ok
 returns-in_ok-goals-in-Ok c =
     let board = board_in c.args.rows.now in
     let judged = subst (λ (b : Result Board LevelFault). IsJudged board b) c.in-Ok.is c.requires.judged in
     let remark = subst (λ (b : Board). IfOk c.remark_of_level.result (IsRemarkOnLevel b)) judged.0 c.remark_of_level.ensures in
     subst (λ (b : Result Board LevelFault). IfOk c.remark_of_level.result (IsRemarkOn b board)) (sym c.in-Ok.is) remark
-
-pub returns-in-Err : goal.returns-in-Err
-returns-in-Err c =
-    let board = board_in c.args.rows.now in
-    subst (λ (b : Result Board LevelFault). IfOk c.remark_of_fault.result (IsRemarkOn b board)) (sym c.in-Err.is) c.remark_of_fault.ensures

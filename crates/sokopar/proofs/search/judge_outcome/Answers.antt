@@ -1,14 +1,19 @@
 -- At its limit a search knows a bound.
-use Rattle.std.proofs.Common.{None}
-use Rattle.sokopar.proofs.Judging.{judged_of, limit_least, limit_open, limit_within}
+use Rattle.sokopar.proofs.Judging.{limit_least, stopped_least}
 use Rattle.sokopar.proofs.search.judge_outcome.Goals as goal
 
-pub known_at_limit-known-requires-clause-least : goal.known_at_limit-known-requires-clause-least
-known_at_limit-known-requires-clause-least c =
-    limit_least c.args.settings.cap c.args.settings.limit c.args.level.now c.args.outcome c.in-Limit.at_least c.requires.outcome c.in-Limit.is
+pub judge_open-requires-clause-least : goal.judge_open-requires-clause-least
+judge_open-requires-clause-least g c =
+    (limit_least c.args.settings c.args.settings.cap c.args.level.now c.args.outcome c.in-Limit.at_least c.requires.outcome c.in-Limit.is).0
 
-pub known_at_limit-known-requires-clause-open : goal.known_at_limit-known-requires-clause-open
-known_at_limit-known-requires-clause-open c = (
-  limit_open c.args.settings.cap c.args.settings.limit c.args.level.now c.args.outcome c.in-Limit.at_least c.requires.outcome c.in-Limit.is,
-  limit_within c.args.settings.cap c.args.settings.limit c.args.level.now c.args.outcome c.in-Limit.at_least c.requires.outcome c.in-Limit.is,
-)
+pub judge_open-requires-clause-open : goal.judge_open-requires-clause-open
+judge_open-requires-clause-open g c =
+    (limit_least c.args.settings c.args.settings.cap c.args.level.now c.args.outcome c.in-Limit.at_least c.requires.outcome c.in-Limit.is).1
+
+pub judge_open-requires-in-Stopped-clause-least : goal.judge_open-requires-in-Stopped-clause-least
+judge_open-requires-in-Stopped-clause-least g c =
+    (stopped_least c.args.settings c.args.settings.cap c.args.level.now c.args.outcome c.in-Stopped.at_least c.requires.outcome c.in-Stopped.is).0
+
+pub judge_open-requires-in-Stopped-clause-open : goal.judge_open-requires-in-Stopped-clause-open
+judge_open-requires-in-Stopped-clause-open g c =
+    (stopped_least c.args.settings c.args.settings.cap c.args.level.now c.args.outcome c.in-Stopped.at_least c.requires.outcome c.in-Stopped.is).1

@@ -1,5 +1,5 @@
 -- One level more is shown, or none is left.
-use Rattle.std.proofs.Common.{rules, ◌≡◌, ◌++◌, IfOk, subst}
+use Rattle.std.proofs.Common.{rules, ◌≡◌, ◌++◌, subst}
 use Rattle.xsb.specs.inside.Progress.{GivesNext}
 use Rattle.sokopar.proofs.Shown.{shown-beyond, shown-more, shown-within}
 use Rattle.sokopar.proofs.showing.show_range.Goals as goal

@@ -3,11 +3,8 @@ use Rattle.std.proofs.lemmas.Bool.Decides.{nat_tests}
 use Rattle.std.proofs.lemmas.Iterator.Consumers.{YieldsList-turn, YieldsList-end}
 use Rattle.std.proofs.lemmas.Iterator.Splits.{YieldsList-from_slice_split}
 use Rattle.xsb.specs.inside.Bytes.{bar}
-use Rattle.xsb.proofs.RowLines.{PushesRows-none, PushesRows-empty, PushesRows-more, PushesRows-all}
+use Rattle.xsb.proofs.RowLines.{PushesRows-empty, PushesRows-more, PushesRows-all}
 use Rattle.xsb.proofs.sizes.push_line.Goals as goal
-
-pub loop-piece-init : goal.loop-piece-init
-loop-piece-init c = PushesRows-none c.args.line.now c.args.cols c.args.cells.now.items
 
 pub loop-piece-preserved-in-Continue-1 : goal.loop-piece-preserved-in-Continue-1
 loop-piece-preserved-in-Continue-1 c =

@@ -1,4 +1,4 @@
-use Rattle.std.proofs.Common.{◌++◌, ◌∷◌, [], map, take, drop, ap, ◌∙◌, append_assoc, arith, ◌≡◌, rules}
+use Rattle.std.proofs.Common.{◌++◌, ◌∷◌, [], map, take, drop, ap, ◌∙◌, append_assoc, arith, ◌≡◌}
 use Rattle.xsb.specs.inside.Bytes.{line_feed}
 use Rattle.xsb.specs.Rows.{cell_byte}
 use Rattle.xsb.proofs.CellsByReaders.{kept-cells}
@@ -13,11 +13,3 @@ returns-clause-ok c =
     ∙ ap (λ r. c.args.out.now.items ++ map cell_byte r)
     (kept-cells cells c.args.start c.args.level.now.cols c.kept_cells-kept.result c.kept_cells-kept.ensures.kept c.kept_cells-kept.ensures.within))
     ∙ append_assoc c.args.out.now.items _ (line_feed ∷ [])
-
-pub returns-in_err-push-clause-more : goal.returns-in_err-push-clause-more
-returns-in_err-push-clause-more c =
-    (map cell_byte (take c.loop-col.col (drop c.args.start c.args.level.now.cells)), search (rules, c.loop-col.invariant))
-
-pub returns-in_err-push-2-clause-more : goal.returns-in_err-push-2-clause-more
-returns-in_err-push-2-clause-more c =
-    (map cell_byte (take c.loop-col.col (drop c.args.start c.args.level.now.cells)), search (rules, c.loop-col.invariant))

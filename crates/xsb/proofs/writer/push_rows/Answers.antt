@@ -9,9 +9,6 @@ use Rattle.xsb.proofs.writer.push_rows.Goals as goal
 extends_more : (xs ys zs : List ℕ) → Extends xs ys → Extends ys zs → Extends xs zs
 extends_more xs ys zs a b = (a.0 ++ b.0, b.1 ∙ ap (λ l. l ++ b.0) a.1 ∙ append_assoc xs a.0 b.0)
 
-pub returns-in_err-push_row-clause-more : goal.returns-in_err-push_row-clause-more
-returns-in_err-push_row-clause-more c = extends_more _ _ _ c.loop-row.invariant.1 c.push_row.ensures.more
-
 pub loop-row-init : goal.loop-row-init
 loop-row-init c = (ap (λ l. c.args.out.now.items ++ l) (left-none c.args.level.now), ([], sym (append-nil c.args.out.now.items)))
 

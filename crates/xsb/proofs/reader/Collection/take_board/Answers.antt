@@ -1,5 +1,5 @@
 use Rattle.std.proofs.Common.{refl, ◌∙◌}
-use Rattle.xsb.proofs.BoardByBoard.{Takes-more, HasRead-all, ReadsBoard-copy, HasRows-read, few-lines, reads-fewer}
+use Rattle.xsb.proofs.BoardByBoard.{Takes-more, HasRead-all, ReadsBoard-copy, HasRows-read, reads-fewer}
 use Rattle.xsb.proofs.reader.Collection.take_board.Goals as goal
 
 pub returns-in_default-clause-next : goal.returns-in_default-clause-next
@@ -16,8 +16,3 @@ pub returns-clause-fewer : goal.returns-clause-fewer
 returns-clause-fewer c =
     reads-fewer (ReadsBoard-copy {first = c.args.self.now.lines} c.copy-lines.result c.copy-lines.ensures.rest c.copy-lines.ensures.number c.in-Some.ensures)
     c.read_gap-before.ensures
-
-pub returns-clause-few : goal.returns-clause-few
-returns-clause-few c =
-    few-lines c.args.self.now.lines.few
-    (ReadsBoard-copy {first = c.args.self.now.lines} c.copy-lines.result c.copy-lines.ensures.rest c.copy-lines.ensures.number c.in-Some.ensures)
