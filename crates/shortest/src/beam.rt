@@ -16,8 +16,18 @@ use std::alloc::{AllocError, Global};
 use successors::Problem;
 
 /// The beams, one after the other: the most states of a layer that are expanded, and how many percent more pushes than
-/// the bound are allowed. With many pushes more the first beams find no solutions with few.
-const BEAMS: [(usize, u32); 6] = [(200, 0), (200, 5), (200, 20), (600, 0), (600, 5), (600, 20)];
+/// the bound are allowed. Narrow beams find solutions within few states; with fewer pushes allowed they find better ones.
+const BEAMS: [(usize, u32); 9] = [
+    (50, 0),
+    (50, 20),
+    (50, 60),
+    (200, 0),
+    (200, 20),
+    (200, 60),
+    (600, 0),
+    (600, 20),
+    (600, 60),
+];
 
 /// Looks for a solution of a level, given that each has at least `at_least` pushes. A cap allows no more than that many.
 /// It ends once it has expanded `states` states, fewer on a large grid, or has run as many seconds as it may. The result
