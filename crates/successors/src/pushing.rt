@@ -21,6 +21,9 @@ use arrayvec::ArrayVec;
 use doom::{Dangers, Dead};
 use grid::{Level, MAX_BOXES, Position, Push, Square};
 
+// The number of places that are noted for the boxes of a position.
+const PLACES: usize = 256;
+
 /// A position to expand, and what its pushes are judged by: the level, its dead squares, and the squares where pushes
 /// may freeze a box.
 #[derive(Drop)]
@@ -52,25 +55,32 @@ pub(crate) fn successors_by(
     ensures fits { FitLevel parent.now.level.now (take result slots.new.successors.items) }
     ensures kept { scratch.new ≡ scratch.old }
 {
-    let boxes = parent.position.boxes();
     let total = box_sum(parent.position);
-    let mut place = 0;
+    let places = places_of(parent.position.boxes());
     let mut count = 0;
     for push in pushes {
-        place = box_from(boxes, place, push.square);
+        let place = place_in(&places, push.square);
         count = append_successor(parent, total, place, *push, scratch, slots, count);
     }
     count
 }
 
-// The first place from a given one on whose box has no lesser square: the place of the box on the square, if the
-// boxes before the given place have lesser squares.
-fn box_from(boxes: &[Square], place: usize, square: Square) -> usize {
-    let mut place = place;
-    while place < boxes.len() && boxes[place] < square {
-        place += 1;
+// For each box, its place under its square's number modulo `PLACES`. In a larger grid a box may have the place of
+// another one, which only costs time.
+fn places_of(boxes: &[Square]) -> [u8; PLACES]
+    requires { length boxes.now ≤ MAX_BOXES }
+{
+    let mut places = [0; PLACES];
+    for (place, square) in boxes.iter().enumerate() {
+        places[square.0 as usize % PLACES] = place as u8;
     }
-    place
+    places
+}
+
+// The place that is noted for a square.
+#[inline(always)]
+fn place_in(places: &[u8; PLACES], square: Square) -> usize {
+    places[square.0 as usize % PLACES] as usize
 }
 
 // Writes the position after a push behind the first `count` slots, and returns the number of slots then in use, which
