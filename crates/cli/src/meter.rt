@@ -7,7 +7,7 @@ use std::time::{Clock, Instant};
 
 /// Says how long searches have run. If that is wanted, it writes on standard error how far they are, at most one line a
 /// second: once the proved bound rises, else after ten seconds, and for each better solution. It reads the clock only for
-/// these lines, and when it is asked how long a search has run; one that cannot be read stands still.
+/// these lines, and when it is asked how long a search has run. If the clock cannot be read, no time counts as over.
 #[derive(Drop)]
 pub(crate) struct Meter<'a, R> {
     rt: &'a R,

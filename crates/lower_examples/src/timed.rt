@@ -13,7 +13,7 @@ use std::thread::Threads;
 // A solution of the room with two moves too many.
 const DETOUR: &[u8] = b"RlrlLL";
 
-/// A clock that is one second later each time that it is asked. It keeps the last better solution that it heard of.
+/// A clock on which each question takes one second. It keeps the last better solution that it heard of.
 #[derive(Default, Drop)]
 pub(crate) struct Ticks {
     pub(crate) run: u32,

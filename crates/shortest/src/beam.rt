@@ -90,7 +90,7 @@ fn search_over<P: Progress>(
     found
 }
 
-// Looks for a solution with one beam after the other, and with tables as a search of so many states makes them.
+// Looks for a solution with one beam after the other. It first makes the tables of a search of so many states.
 fn search_with<P: Progress>(
     alloc: Global,
     level: &Level,

@@ -17,8 +17,8 @@ const ROOM: &[u8] = b"#######\n#. @  #\n# $*$.#\n#     #\n#######\n";
 /// The length of the first line of a table.
 const HEAD: usize = 99;
 
-/// A clock that stands still, except in the searches of a level from one number to another, counted from 1: there it is
-/// later each time that it is asked.
+/// A clock that stands still, except in the searches of a level from one number to another, counted from 1: there each
+/// question takes some seconds.
 #[derive(Drop)]
 struct Ticks {
     from: u32,
